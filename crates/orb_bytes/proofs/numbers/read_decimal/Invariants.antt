@@ -1,0 +1,11 @@
+use Rattle.std.proofs.Common.{◌≡◌, ◌<◌, ◌^◌, true, take}
+use Rattle.std.specs.List.{list_all}
+use Rattle.std.specs.Char.{is_ascii_digit}
+use Rattle.std.specs.Str.Parse.{digits_value}
+use Rattle.orb_bytes.proofs.numbers.read_decimal.Given as goal
+
+abbrev pub invariant-loop-b : goal.invariant-loop-b
+invariant-loop-b l =
+    (l.number < 10 ^ l.b-index)
+    × (l.number ≡ digits_value 10 (take l.b-index l.text))
+    × (list_all is_ascii_digit (take l.b-index l.text) ≡ true)

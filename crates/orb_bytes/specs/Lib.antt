@@ -1,0 +1,4 @@
+pub mod Bytes
+pub mod Trim
+pub mod Decimal
+pub mod Fields

@@ -1,0 +1,18 @@
+//! Bytes as HTTP and MIME read them: classes, ASCII case, trimming and decimal numbers.
+//!
+//! `specs/` holds the definitions that every crate above cites: `Bytes` the classes, `Trim` what
+//! a text is without the ends, `Decimal` numbers, and `Fields` the fields of a head by their names.
+//! Nothing here takes memory, and nothing fails but [`read_decimal`].
+#![tactic(auto)]
+
+mod classes;
+mod letters;
+mod numbers;
+mod trimming;
+
+pub use classes::{
+    is_http_ws, is_quoted_token, is_space_byte, is_tab_or_space, is_tag_end, is_token,
+};
+pub use letters::{eq_ignore_case, lower};
+pub use numbers::{decimal, read_decimal};
+pub use trimming::{trim_http_ws, trim_tab_or_space};

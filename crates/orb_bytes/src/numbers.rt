@@ -1,0 +1,36 @@
+//! Decimal numbers.
+ghost use Rattle.std.specs.Prelude.{◌≡◌};
+ghost use Rattle.std.specs.Prelude.{decimal as decimal_text};
+ghost use Rattle.orb_bytes.specs.Decimal.{decimal_of};
+
+use arrayvec::ArrayVec;
+
+/// The most digits that [`read_decimal`] reads.
+const MOST_DIGITS: usize = 19;
+
+/// The number that 1 to 19 ASCII digits write; `None` exactly where the text is something else.
+pub fn read_decimal(text: &[u8]) -> Option<u64>
+    ensures { result ≡ decimal_of text.now }
+{
+    if text.is_empty() || text.len() > MOST_DIGITS {
+        return None;
+    }
+    let mut number = 0u64;
+    for b in text {
+        if !b.is_ascii_digit() {
+            return None;
+        }
+        number = number * 10 + u64::from(*b - b'0');
+    }
+    Some(number)
+}
+
+/// The decimal digits of the number, without leading zeros.
+pub fn decimal(n: u64) -> ArrayVec<u8, 20>
+    ensures { result.items ≡ decimal_text n }
+{
+    let mut digits = ArrayVec::new();
+    let mut buffer = itoa::Buffer::new();
+    let _ = digits.try_extend_from_slice(buffer.format(n).as_bytes());
+    digits
+}

@@ -1,0 +1,50 @@
+//! Texts without the white space at their ends.
+ghost use Rattle.std.specs.Prelude.{◌≡◌};
+ghost use Rattle.orb_bytes.specs.Bytes.{is_one_of, is_http_whitespace};
+ghost use Rattle.orb_bytes.specs.Bytes.{is_tab_or_space as is_tab_or_space_byte};
+ghost use Rattle.orb_bytes.specs.Trim.{trimmed, without_leading, without_trailing};
+
+/// The text without HTTP whitespace at its two ends (WHATWG Fetch 2.2).
+pub fn trim_http_ws(text: &[u8]) -> &[u8]
+    ensures { result.now ≡ trimmed is_http_whitespace text.now }
+{
+    trim_of(text, b"\t\n\r ")
+}
+
+/// The text without tabs and spaces at its two ends (WHATWG Fetch 2.2).
+pub fn trim_tab_or_space(text: &[u8]) -> &[u8]
+    ensures { result.now ≡ trimmed is_tab_or_space_byte text.now }
+{
+    trim_of(text, b"\t ")
+}
+
+/// The text without bytes of the class at its two ends.
+fn trim_of<'t>(text: &'t [u8], class: &[u8]) -> &'t [u8]
+    ensures { result.now ≡ trimmed (is_one_of class.now) text.now }
+{
+    trim_end(trim_start(text, class), class)
+}
+
+fn trim_start<'t>(text: &'t [u8], class: &[u8]) -> &'t [u8]
+    ensures { result.now ≡ without_leading (is_one_of class.now) text.now }
+{
+    let mut rest = text;
+    'leading: while let [first, others @ ..] = rest
+        && class.contains(first)
+    {
+        rest = others;
+    }
+    rest
+}
+
+fn trim_end<'t>(text: &'t [u8], class: &[u8]) -> &'t [u8]
+    ensures { result.now ≡ without_trailing (is_one_of class.now) text.now }
+{
+    let mut rest = text;
+    'trailing: while let [others @ .., last] = rest
+        && class.contains(last)
+    {
+        rest = others;
+    }
+    rest
+}
