@@ -1,7 +1,7 @@
 -- How trimming goes a byte at a time.
-use Rattle.std.proofs.Common.{◌≡◌, ℕ, ◌-◌, ◌≤◌, Bool, true, false, List, [], ◌∷◌, ◌++◌, get_or, take, reverse, refl, sym, ap, ◌∙◌, length, ◌<◌, ◌+◌, arith}
+use Rattle.std.proofs.Common.{◌≡◌, ℕ, ◌-◌, ◌≤◌, Bool, true, false, List, [], ◌∷◌, ◌++◌, get_or, take, reverse, refl, sym, ap, ◌∙◌, length, ◌+◌, arith}
 use Rattle.std.proofs.lemmas.List.{reverse-append, reverse-reverse, take_more, take_all}
-use Rattle.orb_bytes.specs.Trim.{without_leading, without_trailing, trimmed}
+use Rattle.orb_bytes.specs.Trim.{without_leading, without_trailing}
 
 pub without_leading-more : (test : ℕ → Bool) (b : ℕ) (text : List ℕ) → test b ≡ true
     → without_leading test (b ∷ text) ≡ without_leading test text

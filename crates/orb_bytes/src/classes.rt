@@ -47,3 +47,28 @@ pub fn is_quoted_token(b: u8) -> bool
 {
     matches!(b, b'\t' | b' '..=b'~' | 0x80..=0xff)
 }
+
+#[cfg(test)]
+mod tests {
+    use super::*;
+
+    /// The sizes of the classes, counted in the standard.
+    #[test]
+    fn classes_have_their_sizes(rt: HostRuntime) {
+        let mut sizes = [0; 6];
+        for b in 0..=255 {
+            let passed = [
+                is_http_ws(b),
+                is_tab_or_space(b),
+                is_space_byte(b),
+                is_tag_end(b),
+                is_token(b),
+                is_quoted_token(b),
+            ];
+            for (size, passes) in sizes.iter_mut().zip(passed) {
+                *size = u16::saturating_add(*size, u16::from(passes));
+            }
+        }
+        assert_eq!(rt; sizes, [4, 2, 5, 2, 77, 224]);
+    }
+}

@@ -48,3 +48,22 @@ fn trim_end<'t>(text: &'t [u8], class: &[u8]) -> &'t [u8]
     }
     rest
 }
+
+#[cfg(test)]
+mod tests {
+    use super::*;
+
+    #[test]
+    fn ends_are_trimmed(rt: HostRuntime) {
+        let texts: [(&[u8], &[u8], &[u8]); 4] = [
+            (b" \t a b\t ", b"a b", b"a b"),
+            (b"\r\na\x0c\n", b"a\x0c", b"\r\na\x0c\n"),
+            (b" \t", b"", b""),
+            (b"", b"", b""),
+        ];
+        for (text, by_http, by_tab_or_space) in texts {
+            assert!(rt; trim_http_ws(text) == by_http, "{text:?}");
+            assert!(rt; trim_tab_or_space(text) == by_tab_or_space, "{text:?}");
+        }
+    }
+}

@@ -1,0 +1,51 @@
+-- What the program says of an outcome: its status, and its line on standard error.
+use Rattle.std.specs.Prelude.{ℕ, List, [], ◌∷◌, ◌++◌, codes, decimal}
+use Rattle.http_exchange.specs.declared.refusals.BadKind.{BadKind}
+use Rattle.http_exchange.specs.declared.refusals.BadKind.TheVariants.{BadHead, RequestBody, BadMediaId, Interim, BadFraming, BadChunk}
+use Rattle.orb_cli.specs.declared.outcome.Outcome.{Outcome}
+use Rattle.orb_cli.specs.declared.outcome.Outcome.TheVariants as outcomes
+
+-- the program's status
+abbrev pub status_of : Outcome → ℕ
+status_of outcomes.Done = 0
+status_of outcomes.Usage = 1
+status_of (outcomes.Bad kind place) = 2
+status_of (outcomes.Cut place) = 3
+status_of (outcomes.HeadLimit place) = 4
+status_of (outcomes.MediaFull place) = 4
+status_of (outcomes.NotBuilt place) = 8
+status_of outcomes.Endless = 4
+status_of outcomes.ReadFault = 5
+status_of outcomes.WriteFault = 6
+status_of outcomes.NoMemory = 7
+
+-- the word for what is bad
+abbrev pub kind_name : BadKind → List ℕ
+kind_name BadHead = codes "bad-head"
+kind_name RequestBody = codes "request-body"
+kind_name BadMediaId = codes "bad-media-id"
+kind_name Interim = codes "interim"
+kind_name BadFraming = codes "bad-framing"
+kind_name BadChunk = codes "bad-chunk"
+
+-- a line of the program's name, a text and a line feed
+abbrev pub line : List ℕ → List ℕ
+line text = codes "orb: " ++ (text ++ (10 ∷ []))
+
+-- a line that names a place
+abbrev pub line_at : List ℕ → ℕ → List ℕ
+line_at text place = line (text ++ (codes " at " ++ decimal place))
+
+-- the line on standard error, which is empty where all went well
+unfoldable pub line_of : Outcome → List ℕ
+line_of outcomes.Done = []
+line_of outcomes.Usage = line (codes "words refused")
+line_of (outcomes.Bad kind place) = line_at (kind_name kind) place
+line_of (outcomes.Cut place) = line_at (codes "cut") place
+line_of (outcomes.HeadLimit place) = line_at (codes "head limit") place
+line_of (outcomes.MediaFull place) = line_at (codes "media full") place
+line_of (outcomes.NotBuilt place) = line_at (codes "not built") place
+line_of outcomes.Endless = line (codes "endless")
+line_of outcomes.ReadFault = line (codes "read fault")
+line_of outcomes.WriteFault = line (codes "write fault")
+line_of outcomes.NoMemory = line (codes "no memory")

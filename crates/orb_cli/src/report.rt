@@ -1,0 +1,61 @@
+//! What the program says of an outcome.
+ghost use Rattle.std.specs.Prelude.{◌≡◌};
+ghost use Rattle.orb_cli.specs.Report.{status_of, kind_name, line_of};
+
+use arrayvec::ArrayVec;
+use http_exchange::BadKind;
+
+use crate::outcome::Outcome;
+
+impl Outcome {
+    /// The program's status: 0 where all went well.
+    pub fn status(&self) -> u8
+        ensures { result ≡ status_of self.now }
+    {
+        match self {
+            Outcome::Done => 0,
+            Outcome::Usage => 1,
+            Outcome::Bad { .. } => 2,
+            Outcome::Cut { .. } => 3,
+            Outcome::HeadLimit { .. } | Outcome::MediaFull { .. } | Outcome::Endless => 4,
+            Outcome::ReadFault => 5,
+            Outcome::WriteFault => 6,
+            Outcome::NoMemory => 7,
+            Outcome::NotBuilt { .. } => 8,
+        }
+    }
+}
+
+/// The line for standard error, with its line feed: empty where all went well.
+pub fn outcome_line(outcome: &Outcome) -> ArrayVec<u8, 96>
+    ensures { result.items ≡ line_of outcome.now }
+{
+    match outcome {
+        Outcome::Done => ArrayVec::new(),
+        Outcome::Usage => line(b"words refused"),
+        Outcome::Bad { kind, place } => line_at(name(*kind), *place),
+        Outcome::Cut { place } => line_at(b"cut", *place),
+        Outcome::HeadLimit { place } => line_at(b"head limit", *place),
+        Outcome::MediaFull { place } => line_at(b"media full", *place),
+        Outcome::NotBuilt { place } => line_at(b"not built", *place),
+        Outcome::Endless => line(b"endless"),
+        Outcome::ReadFault => line(b"read fault"),
+        Outcome::WriteFault => line(b"write fault"),
+        Outcome::NoMemory => line(b"no memory"),
+    }
+}
+
+/// The word for what is bad.
+fn name(kind: BadKind) -> &'static [u8]
+    ensures value { result.now ≡ kind_name kind }
+    ensures short { length result.now ≤ 16 }
+{
+    match kind {
+        BadKind::BadHead => b"bad-head",
+        BadKind::RequestBody => b"request-body",
+        BadKind::BadMediaId => b"bad-media-id",
+        BadKind::Interim => b"interim",
+        BadKind::BadFraming => b"bad-framing",
+        BadKind::BadChunk => b"bad-chunk",
+    }
+}
