@@ -9,7 +9,7 @@ use Rattle.http_exchange.specs.Head.{head_length}
 use Rattle.http_exchange.specs.Heads.{IsRequest, IsResponse}
 use Rattle.http_exchange.specs.First.{is_plain_request, plain_response}
 use Rattle.mime_types.specs.Mime.{Mime, IsMime}
-use Rattle.mime_types.specs.Sets.{is_safelisted}
+use Rattle.mime_types.specs.Sets.{is_safelisted_type}
 
 -- where a recording ends, and what was wrong there; a place is a byte's, counted from 0
 pub data End : Type 0 where
@@ -42,7 +42,7 @@ Refuses out stop refusal = (out ≡ []) × (stop ≡ refusal)
 
 -- the value's MIME type is safelisted
 abbrev pub IsSafelisted : List ℕ → Type 0
-IsSafelisted value = (m : Mime) × IsMime value m × (is_safelisted m.main m.sub ≡ true)
+IsSafelisted value = (m : Mime) × IsMime value m × (is_safelisted_type m.main m.sub ≡ true)
 
 -- behind a response head of such a type: the length says where the body ends
 abbrev pub body_end : (place size have : ℕ) (ended : Bool) → End

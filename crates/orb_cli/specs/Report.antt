@@ -29,23 +29,23 @@ kind_name BadFraming = codes "bad-framing"
 kind_name BadChunk = codes "bad-chunk"
 
 -- a line of the program's name, a text and a line feed
-abbrev pub line : List ℕ → List ℕ
-line text = codes "orb: " ++ (text ++ (10 ∷ []))
+abbrev pub line_text : List ℕ → List ℕ
+line_text text = codes "orb: " ++ (text ++ (10 ∷ []))
 
 -- a line that names a place
-abbrev pub line_at : List ℕ → ℕ → List ℕ
-line_at text place = line (text ++ (codes " at " ++ decimal place))
+abbrev pub line_text_at : List ℕ → ℕ → List ℕ
+line_text_at text place = line_text (text ++ (codes " at " ++ decimal place))
 
 -- the line on standard error, which is empty where all went well
-unfoldable pub line_of : Outcome → List ℕ
+abbrev pub line_of : Outcome → List ℕ
 line_of outcomes.Done = []
-line_of outcomes.Usage = line (codes "words refused")
-line_of (outcomes.Bad kind place) = line_at (kind_name kind) place
-line_of (outcomes.Cut place) = line_at (codes "cut") place
-line_of (outcomes.HeadLimit place) = line_at (codes "head limit") place
-line_of (outcomes.MediaFull place) = line_at (codes "media full") place
-line_of (outcomes.NotBuilt place) = line_at (codes "not built") place
-line_of outcomes.Endless = line (codes "endless")
-line_of outcomes.ReadFault = line (codes "read fault")
-line_of outcomes.WriteFault = line (codes "write fault")
-line_of outcomes.NoMemory = line (codes "no memory")
+line_of outcomes.Usage = line_text (codes "words refused")
+line_of (outcomes.Bad kind place) = line_text_at (kind_name kind) place
+line_of (outcomes.Cut place) = line_text_at (codes "cut") place
+line_of (outcomes.HeadLimit place) = line_text_at (codes "head limit") place
+line_of (outcomes.MediaFull place) = line_text_at (codes "media full") place
+line_of (outcomes.NotBuilt place) = line_text_at (codes "not built") place
+line_of outcomes.Endless = line_text (codes "endless")
+line_of outcomes.ReadFault = line_text (codes "read fault")
+line_of outcomes.WriteFault = line_text (codes "write fault")
+line_of outcomes.NoMemory = line_text (codes "no memory")

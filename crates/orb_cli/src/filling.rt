@@ -1,5 +1,5 @@
 //! Reading a source into a room of fixed size.
-ghost use Rattle.std.specs.Prelude.{◌≡◌, ◌≤◌, ◌<◌, length, take, IfOk, MatchResult};
+ghost use Rattle.std.specs.Prelude.{◌≡◌, ◌≤◌, ◌<◌, List, ℕ, length, take, IfOk, MatchResult};
 ghost use Rattle.orb_io.specs.Told.{Loses, IsAtEnd, HasCause};
 
 use orb_io::{Failed, Source};

@@ -1,30 +1,32 @@
 //! The form of exchange that is built so far, judged in one piece.
-ghost use Rattle.std.specs.Prelude.{◌≡◌, ◌↔◌, ◌+◌, ◌^◌, ◌<◌, ◌≤◌, [], true, length, take, drop, IsTrue};
+ghost use Rattle.std.specs.Prelude.{◌≡◌, ◌+◌, ◌^◌, ◌<◌, ◌≤◌, [], true, length, take, drop};
 ghost use Rattle.orb_cli.specs.Answer.{AtEnd};
 ghost use Rattle.orb_cli.specs.Recording.{
-    IsRecording, IsRequestAt, IsBehindRequest, IsResponseAt, IsSafelisted, GivesBody, head_window, missing_end,
+    IsRecording, IsRequestAt, IsBehindRequest, IsResponseAt, GivesBody, head_window, missing_end,
 };
 
 use http_exchange::{
     BadKind, FirstRequest, FirstResponse, first_request, first_response, head_end,
 };
-use mime_types::{essence_of, is_safelisted};
 
 use crate::outcome::Outcome;
+use crate::typing::is_safelisted_value;
 
 /// The most bytes of a head.
 const HEAD_LIMIT: usize = 65_536;
 
 /// The most bytes of a recording: two heads and the largest body.
-const RECORDING_LIMIT: usize = 1_179_648;
+pub const RECORDING_LIMIT: usize = 1_179_648;
 
 /// What `filter` writes of a recording, and where the recording ends.
+#[derive(Clone, Copy, Debug)]
 pub struct Judged<'b> {
     pub end: Outcome,
     pub out: &'b [u8],
 }
 
 /// Judges a whole recording: the input has ended behind these bytes.
+#[tactic(auto, unfolding(crate::specs::Recording::IsRecording, crate::specs::Recording::recording_limit))]
 pub fn judge(bytes: &[u8]) -> Judged<'_>
     ensures { AtEnd result.end (IsRecording bytes.now true result.out.now) }
 {
@@ -43,6 +45,7 @@ pub fn judge(bytes: &[u8]) -> Judged<'_>
     }
 }
 
+#[tactic(auto, unfolding(crate::specs::Recording::IsRequestAt))]
 fn judge_request<'b>(head: &[u8], rest: &'b [u8]) -> Judged<'b>
     requires { length head.now + length rest.now < 2 ^ 64 }
     ensures { AtEnd result.end (IsRequestAt head.now rest.now true result.out.now) }
@@ -65,6 +68,7 @@ fn judge_behind_request(bytes: &[u8], place: u64) -> Judged<'_>
 }
 
 /// Judges a response head of `end` bytes and what follows it.
+#[tactic(auto, unfolding(crate::specs::Recording::IsResponseAt))]
 fn judge_response(bytes: &[u8], end: usize, place: u64) -> Judged<'_>
     requires within { end ≤ length bytes.now }
     requires fits { place + length bytes.now < 2 ^ 64 }
@@ -80,7 +84,7 @@ fn judge_response(bytes: &[u8], end: usize, place: u64) -> Judged<'_>
             type_end,
             length,
         } => {
-            if is_safelisted_type(&head[type_start..type_end]) {
+            if is_safelisted_value(&head[type_start..type_end]) {
                 judge_body(bytes, end, length, place)
             } else {
                 nothing(Outcome::NotBuilt { place })
@@ -98,40 +102,38 @@ fn judge_body(bytes: &[u8], end: usize, size: u64, place: u64) -> Judged<'_>
 {
     let have = (bytes.len() - end) as u64;
     if have < size {
-        Judged {
+        return Judged {
             end: Outcome::Cut { place: 0 },
             out: bytes,
-        }
-    } else {
-        let behind = end + size as usize;
-        Judged {
-            end: if have == size {
-                Outcome::Done
-            } else {
-                Outcome::NotBuilt {
-                    place: place + behind as u64,
-                }
-            },
-            out: &bytes[..behind],
-        }
+        };
+    }
+    let behind = end + size as usize;
+    let out = &bytes[..behind];
+    if have == size {
+        return Judged {
+            end: Outcome::Done,
+            out,
+        };
+    }
+    Judged {
+        end: Outcome::NotBuilt {
+            place: place + behind as u64,
+        },
+        out,
     }
 }
 
-/// Whether the value's MIME type is safelisted.
-fn is_safelisted_type(value: &[u8]) -> bool
-    ensures { IsTrue result ↔ IsSafelisted value.now }
-{
-    essence_of(value).is_some_and(|essence| is_safelisted(&essence))
-}
-
 /// The bytes in which a head has to end.
+#[tactic(auto, unfolding(crate::specs::Recording::head_window, crate::specs::Recording::head_limit))]
 fn window(bytes: &[u8]) -> &[u8]
-    ensures { result.now ≡ head_window bytes.now }
+    ensures window { result.now ≡ head_window bytes.now }
+    ensures within { length result.now ≤ length bytes.now }
 {
     &bytes[..bytes.len().min(HEAD_LIMIT)]
 }
 
 /// Where a recording ends whose head at this place has no end in these bytes.
+#[tactic(auto, unfolding(crate::specs::Recording::head_limit))]
 fn unfinished(bytes: &[u8], place: u64) -> Outcome
     ensures { AtEnd result (λ stop. stop ≡ missing_end (length bytes.now) place true) }
 {

@@ -10,8 +10,14 @@ mod filling;
 mod judging;
 mod outcome;
 mod report;
+mod settled;
 mod top;
+mod typing;
+
+#[cfg(test)]
+mod tests;
 
 pub use outcome::Outcome;
 pub use report::outcome_line;
+pub use settled::one_recording;
 pub use top::run;

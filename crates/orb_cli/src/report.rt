@@ -1,9 +1,10 @@
 //! What the program says of an outcome.
-ghost use Rattle.std.specs.Prelude.{◌≡◌};
-ghost use Rattle.orb_cli.specs.Report.{status_of, kind_name, line_of};
+ghost use Rattle.std.specs.Prelude.{◌≡◌, ◌≤◌, ◌+◌, ◌++◌, length};
+ghost use Rattle.orb_cli.specs.Report.{status_of, kind_name, line_of, line_text, line_text_at};
 
 use arrayvec::ArrayVec;
 use http_exchange::BadKind;
+use orb_bytes::decimal;
 
 use crate::outcome::Outcome;
 
@@ -58,4 +59,37 @@ fn name(kind: BadKind) -> &'static [u8]
         BadKind::BadFraming => b"bad-framing",
         BadKind::BadChunk => b"bad-chunk",
     }
+}
+
+/// A line of the program's name and a text.
+fn line(text: &[u8]) -> ArrayVec<u8, 96>
+    requires { length text.now ≤ 60 }
+    ensures { result.items ≡ line_text text.now }
+{
+    let mut line = ArrayVec::new();
+    append(&mut line, b"orb: ");
+    append(&mut line, text);
+    append(&mut line, b"\n");
+    line
+}
+
+/// The same with a place behind the text.
+fn line_at(text: &[u8], place: u64) -> ArrayVec<u8, 96>
+    requires { length text.now ≤ 16 }
+    ensures { result.items ≡ line_text_at text.now place }
+{
+    let mut line = ArrayVec::new();
+    append(&mut line, b"orb: ");
+    append(&mut line, text);
+    append(&mut line, b" at ");
+    append(&mut line, decimal(place).as_slice());
+    append(&mut line, b"\n");
+    line
+}
+
+fn append(line: &mut ArrayVec<u8, 96>, text: &[u8])
+    requires { length line.old.items + length text.now ≤ 96 }
+    ensures { line.new.items ≡ line.old.items ++ text.now }
+{
+    let _ = line.try_extend_from_slice(text);
 }

@@ -1,0 +1,5 @@
+pub mod RoomLemmas
+pub mod RecordingLemmas
+pub mod AnswerLemmas
+pub mod WordLemmas
+pub mod OneRecording
