@@ -1,0 +1,107 @@
+//! A link in memory.
+ghost use Rattle.std.specs.Prelude.{◌≡◌, ◌-◌, ◌^◌, min, Some, length};
+ghost use Rattle.std.specs.Io.{ReadsAtMost};
+ghost use Rattle.orb_io.specs.Told.{Pulls, Pushes, HasCause};
+ghost use Rattle.orb_io.specs.Memory.{PullsInMemory, PushesInMemory};
+ghost use Rattle.std.proofs.Common.{refl, ap, ◌∙◌};
+ghost use Rattle.std.proofs.Math.Nat.{min-le_right as min_le_right};
+
+use crate::memory_sink::MemorySink;
+use crate::memory_source::MemorySource;
+use crate::outside::{Duplex, Failed, Sink, Source};
+use std::marker::Model;
+
+/// A source and a sink in memory as one object.
+#[derive(Drop)]
+pub struct MemoryLink {
+    source: MemorySource,
+    sink: MemorySink,
+}
+
+impl Model for MemoryLink {
+    ghost use Rattle.orb_io.specs.Memory.{LinkState};
+
+    ghost Value = { LinkState };
+
+    ghost view = { λ s. record { source = s.source; sink = s.sink } };
+}
+
+impl MemoryLink {
+    /// Pulls from the source, and pushes to the sink.
+    pub fn new(source: MemorySource, sink: MemorySink) -> MemoryLink
+        ensures { result ≡ record { source = source; sink = sink } }
+    {
+        MemoryLink { source, sink }
+    }
+
+    /// The sink, with what was put.
+    pub fn sink(&self) -> &MemorySink
+        ensures { result.now ≡ self.now.sink }
+    {
+        &self.sink
+    }
+}
+
+impl Source for MemoryLink {
+    ghost left = { λ s. Some s.source.rest };
+
+    ghost faults = { λ s. s.source.faults };
+
+    ghost kept = { λ s t. t.sink ≡ s.sink };
+
+    ghost kept_reflexive = { λ _. refl };
+
+    ghost kept_transitive = { λ _ _ _ p q. q ∙ p };
+
+    fn pull(&mut self, buf: &mut [u8]) -> Result<usize, Failed>
+        ensures bound { ReadsAtMost result buf.new }
+        ensures bytes { Pulls (Some self.old.source.rest) (Some self.new.source.rest) result buf.new }
+        ensures cause { HasCause self.old.source.faults self.new.source.faults result }
+        ensures keeps { self.new.sink ≡ self.old.sink }
+        ensures does { PullsInMemory self.old.source self.new.source result (length buf.new) }
+    {
+        self.source.pull(buf)
+    }
+}
+
+impl Sink for MemoryLink {
+    ghost put = { λ s. Some s.sink.bytes };
+
+    ghost size = { λ s. Some (min (length s.sink.bytes) (2 ^ 64 - 1)) };
+
+    ghost faults = { λ s. s.sink.faults };
+
+    ghost kept = { λ s t. t.source ≡ s.source };
+
+    ghost number = { λ _. refl };
+
+    ghost number_fits = { λ s. min_le_right (length s.sink.bytes) (2 ^ 64 - 1) };
+
+    ghost kept_reflexive = { λ _. refl };
+
+    ghost kept_transitive = { λ _ _ _ p q. q ∙ p };
+
+    fn push(&mut self, piece: &[u8]) -> Result<(), Failed>
+        ensures bytes { Pushes (Some self.old.sink.bytes) (Some self.new.sink.bytes)
+            (Some (min (length self.old.sink.bytes) (2 ^ 64 - 1)))
+            (Some (min (length self.new.sink.bytes) (2 ^ 64 - 1)))
+            result piece.now }
+        ensures cause { HasCause self.old.sink.faults self.new.sink.faults result }
+        ensures keeps { self.new.source ≡ self.old.source }
+        ensures does { PushesInMemory self.old.sink self.new.sink result piece.now }
+    {
+        self.sink.push(piece)
+    }
+}
+
+impl Duplex for MemoryLink {
+    ghost pull_leaves_put = { λ _ _ same. ap (λ k. Some k.bytes) same };
+
+    ghost pull_leaves_size = { λ _ _ same. ap (λ k. Some (min (length k.bytes) (2 ^ 64 - 1))) same };
+
+    ghost pull_leaves_faults = { λ _ _ same. ap (λ k. k.faults) same };
+
+    ghost push_leaves_left = { λ _ _ same. ap (λ k. Some k.rest) same };
+
+    ghost push_leaves_faults = { λ _ _ same. ap (λ k. k.faults) same };
+}

@@ -1,0 +1,128 @@
+//! The adapters over std's readers and writers. What a reader or a writer does outside the program
+//! is trusted to be as std's traits say.
+ghost use Rattle.std.specs.Prelude.{◌≡◌, None};
+ghost use Rattle.std.specs.Io.{ReadsAtMost};
+ghost use Rattle.std.specs.Io.KnownBytes.{ReadConsumes};
+ghost use Rattle.orb_io.specs.Told.{Pulls, Pushes, HasCause};
+ghost use Rattle.orb_io.specs.Streams.{CountsFault, PushAppends};
+
+use crate::outside::{Failed, Sink, Source};
+use crate::supply::raised;
+use std::io;
+use std::io::{Error, ErrorKind, Read, Write};
+
+/// A source over a reader. It doesn't tell its bytes.
+#[derive(Drop)]
+pub struct StdSource<R> {
+    inner: R,
+    faults: u64,
+}
+
+impl<R: Read> StdSource<R> {
+    ghost use Rattle.orb_io.specs.Adapters.{reader_of, read_faults};
+
+    /// Reads from `inner`, with no fault so far.
+    pub fn new(inner: R) -> StdSource<R>
+        ensures reader { reader_of result ≡ inner }
+        ensures faults { read_faults result ≡ 0 }
+    {
+        StdSource { inner, faults: 0 }
+    }
+}
+
+impl<R: Read> Source for StdSource<R> {
+    ghost use Rattle.orb_io.specs.Adapters.{reader_of, read_faults};
+
+    ghost left = { λ _. None };
+
+    ghost faults = { λ s. s.faults };
+
+    ghost kept = { λ _ _. Unit {0} };
+
+    ghost kept_reflexive = { λ _. tt };
+
+    ghost kept_transitive = { λ _ _ _ _ _. tt };
+
+    /// Reads once. Each error of a read is a fault, an interrupted one too.
+    fn pull(&mut self, buf: &mut [u8]) -> Result<usize, Failed>
+        ensures bound { ReadsAtMost result buf.new }
+        ensures bytes { Pulls None None result buf.new }
+        ensures cause { HasCause (read_faults self.old) (read_faults self.new) result }
+        ensures keeps { Unit {0} }
+        ensures counts { CountsFault (read_faults self.old) (read_faults self.new) result }
+        ensures reads { ReadConsumes (R.remaining (reader_of self.old)) (R.remaining (reader_of self.new)) result buf.new }
+    {
+        match self.inner.read(buf) {
+            Ok(count) => Ok(count),
+            Err(_) => Err(raised(&mut self.faults)),
+        }
+    }
+}
+
+/// A sink over a writer. It tells neither its bytes nor their number.
+#[derive(Drop)]
+pub struct StdSink<W> {
+    inner: W,
+    faults: u64,
+}
+
+impl<W: Write> StdSink<W> {
+    ghost use Rattle.orb_io.specs.Adapters.{writer_of, write_faults};
+
+    /// Writes to `inner`, with no fault so far.
+    pub fn new(inner: W) -> StdSink<W>
+        ensures writer { writer_of result ≡ inner }
+        ensures faults { write_faults result ≡ 0 }
+    {
+        StdSink { inner, faults: 0 }
+    }
+}
+
+impl<W: Write> Sink for StdSink<W> {
+    ghost use Rattle.orb_io.specs.Adapters.{writer_of, write_faults};
+
+    ghost put = { λ _. None };
+
+    ghost size = { λ _. None };
+
+    ghost faults = { λ s. s.faults };
+
+    ghost kept = { λ _ _. Unit {0} };
+
+    ghost number = { λ _. tt };
+
+    ghost number_fits = { λ _. tt };
+
+    ghost kept_reflexive = { λ _. tt };
+
+    ghost kept_transitive = { λ _ _ _ _ _. tt };
+
+    /// Writes the whole piece and flushes. Each error is a fault, an interrupted write too, and so
+    /// is a write that takes nothing of what is left.
+    fn push(&mut self, piece: &[u8]) -> Result<(), Failed>
+        ensures bytes { Pushes None None None None result piece.now }
+        ensures cause { HasCause (write_faults self.old) (write_faults self.new) result }
+        ensures keeps { Unit {0} }
+        ensures counts { CountsFault (write_faults self.old) (write_faults self.new) result }
+        ensures writes { PushAppends (W.contents (writer_of self.old)) (W.contents (writer_of self.new)) result piece.now }
+    {
+        match write_and_flush(&mut self.inner, piece) {
+            Ok(()) => Ok(()),
+            Err(_) => Err(raised(&mut self.faults)),
+        }
+    }
+}
+
+/// Writes the whole piece and flushes, and stops at the first error.
+fn write_and_flush<W: Write>(writer: &mut W, piece: &[u8]) -> io::Result<()>
+    ensures { PushAppends (W.contents writer.old) (W.contents writer.new) result piece.now }
+{
+    let mut rest = piece;
+    'writing: while !rest.is_empty() {
+        match writer.write(rest)? {
+            0 => return Err(Error::from(ErrorKind::WriteZero)),
+            count => rest = rest.split_at(count).1,
+        }
+    }
+    writer.flush()
+}
