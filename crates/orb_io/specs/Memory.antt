@@ -1,6 +1,7 @@
 -- The sources, sinks and links in memory as their contracts see them, and what one call on them does.
-use Rattle.std.specs.Prelude.{◌≡◌, ℕ, ◌+◌, ◌-◌, ◌^◌, Bool, true, false, ◌||◌, ◌==◌, nat_lt, min, List, [], ◌++◌, length, take, drop, Result, Ok, Err, if◌then◌else◌}
+use Rattle.std.specs.Prelude.{◌≡◌, ℕ, ◌+◌, ◌-◌, Bool, true, false, ◌||◌, ◌==◌, nat_lt, min, List, [], ◌++◌, length, take, drop, Result, Ok, Err, if◌then◌else◌}
 use Rattle.std.specs.List.{list_any}
+use Rattle.orb_io.specs.Counts.{one_more}
 
 -- a supply of bytes: those still to come, and the most that one pull gives
 pub record SupplyState : Type 0 where
@@ -27,10 +28,6 @@ pub record SinkState : Type 0 where
 pub record LinkState : Type 0 where
   pub source : SourceState
   pub sink : SinkState
-
--- a count after one more, which stays at the last u64
-abbrev pub one_more : ℕ → ℕ
-one_more n = min (n + 1) (2 ^ 64 - 1)
 
 -- whether the call of this number, from 0, is one that fails
 abbrev pub fails_at : List ℕ → ℕ → Bool

@@ -1,13 +1,7 @@
--- What a pull or a push over a stream counts, and what a push does to a writer's bytes.
-use Rattle.std.specs.Prelude.{◌≡◌, ℕ, List, Option, Result, Ok, Err}
+-- What a push does to the bytes of a writer.
+use Rattle.std.specs.Prelude.{ℕ, List, Option, Result, Ok, Err}
 use Rattle.std.specs.Io.KnownBytes.{Appends}
 use Rattle.orb_io.specs.Told.{IsPrefix}
-use Rattle.orb_io.specs.Memory.{one_more}
-
--- an `Err` counts one fault, and an `Ok` none
-abbrev pub CountsFault : {T E : Type 0} → ℕ → ℕ → Result T E → Type 0
-CountsFault before after (Ok value) = after ≡ before
-CountsFault before after (Err failed) = after ≡ one_more before
 
 -- the writer's bytes, where they are known, grew by the whole piece, and at an `Err` by a front of it
 abbrev pub PushAppends : {T E : Type 0} → Option (List ℕ) → Option (List ℕ) → Result T E → List ℕ → Type 0

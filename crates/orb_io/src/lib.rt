@@ -9,17 +9,20 @@
 //! memory do, and `specs/Streams` what the adapters do.
 #![tactic(auto)]
 
-mod counter;
+mod counting_sink;
+mod fault_count;
 mod memory_link;
 mod memory_sink;
 mod memory_source;
+mod never_fails;
 mod outside;
 mod streams;
 mod supply;
 
-pub use counter::CountingSink;
+pub use counting_sink::CountingSink;
 pub use memory_link::MemoryLink;
 pub use memory_sink::MemorySink;
-pub use memory_source::{MemorySource, NeverFails};
+pub use memory_source::MemorySource;
+pub use never_fails::NeverFails;
 pub use outside::{Duplex, Failed, NoMemory, Sink, Source};
 pub use streams::{StdSink, StdSource};

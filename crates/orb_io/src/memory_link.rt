@@ -105,3 +105,39 @@ impl Duplex for MemoryLink {
 
     ghost push_leaves_faults = { λ _ _ same. ap (λ k. k.faults) same };
 }
+
+#[cfg(test)]
+mod tests {
+    use super::*;
+    use std::test::Fail;
+
+    /// Pushes what the next pull gives, and answers whether both went well.
+    fn echo<L: Duplex>(link: &mut L) -> bool {
+        let mut buf = [0u8; 4];
+        match link.pull(&mut buf) {
+            Ok(count) => link.push(&buf[..count]).is_ok(),
+            Err(Failed) => false,
+        }
+    }
+
+    #[test]
+    fn pulls_and_pushes(rt: HostRuntime) -> Result<(), Fail> {
+        let alloc = rt.alloc();
+        let bytes = b"abcdefgh".to_vec(alloc)?;
+        let source = MemorySource::new(bytes, 3, [1].to_vec(alloc)?);
+        let sink = MemorySink::open(alloc, 7, [1].to_vec(alloc)?)?;
+        let mut link = MemoryLink::new(source, sink);
+        let turns = [
+            (true, "abc"),
+            (false, "abc"),
+            (false, "abc"),
+            (true, "abcgh"),
+            (true, "abcgh"),
+        ];
+        for (done, put) in turns {
+            assert_eq!(rt; echo(&mut link), done);
+            assert_eq!(rt; link.sink().bytes(), put.as_bytes());
+        }
+        Ok(())
+    }
+}

@@ -5,8 +5,8 @@ ghost use Rattle.orb_io.specs.Memory.{PushesInMemory};
 ghost use Rattle.std.proofs.Common.{refl};
 ghost use Rattle.std.proofs.Math.Nat.{min-le_right as min_le_right};
 
+use crate::fault_count::raised;
 use crate::outside::{Failed, NoMemory, Sink};
-use crate::supply::raised;
 use std::alloc::Global;
 use std::marker::Model;
 
@@ -80,7 +80,6 @@ impl Sink for MemorySink {
             (Some (min (length self.new.bytes) (2 ^ 64 - 1)))
             result piece.now }
         ensures cause { HasCause self.old.faults self.new.faults result }
-        ensures keeps { Unit {0} }
         ensures does { PushesInMemory self.old self.new result piece.now }
     {
         let fails = self.fails.contains(&self.calls);
@@ -106,5 +105,31 @@ fn append(bytes: &mut Vec<u8>, text: &[u8])
     match bytes.extend_from_slice(text) {
         Ok(()) => {}
         Err(_) => unreachable!(),
+    }
+}
+
+#[cfg(test)]
+mod tests {
+    use super::*;
+    use std::test::Fail;
+
+    #[test]
+    fn takes_what_fits_and_fails_at_its_calls(rt: HostRuntime) -> Result<(), Fail> {
+        let fails = [1].to_vec(rt.alloc())?;
+        let mut sink = MemorySink::open(rt.alloc(), 3, fails)?;
+        let pushes = [
+            ("a", true, "a"),
+            ("b", false, "a"),
+            ("", true, "a"),
+            ("bcdef", false, "abc"),
+            ("", true, "abc"),
+            ("d", false, "abc"),
+        ];
+        for (piece, done, bytes) in pushes {
+            assert_eq!(rt; sink.push(piece.as_bytes()).is_ok(), done);
+            assert_eq!(rt; sink.bytes(), bytes.as_bytes());
+        }
+        assert_eq!(rt; sink.faults, 3);
+        Ok(())
     }
 }

@@ -1,11 +1,12 @@
-//! Sources in memory.
-ghost use Rattle.std.specs.Prelude.{◌≡◌, ◌≤◌, [], Some, Ok, length, drop};
+//! A source in memory, with faults at chosen calls.
+ghost use Rattle.std.specs.Prelude.{◌≡◌, ◌≤◌, Some, length};
 ghost use Rattle.std.specs.Io.{ReadsAtMost};
 ghost use Rattle.orb_io.specs.Told.{Pulls, HasCause};
-ghost use Rattle.orb_io.specs.Memory.{PullsInMemory, given_count};
+ghost use Rattle.orb_io.specs.Memory.{PullsInMemory};
 
+use crate::fault_count::raised;
 use crate::outside::{Failed, Source};
-use crate::supply::{Supply, raised};
+use crate::supply::Supply;
 use std::marker::Model;
 
 /// A source of bytes in memory, some of whose pulls fail.
@@ -56,7 +57,6 @@ impl Source for MemorySource {
         ensures bound { ReadsAtMost result buf.new }
         ensures bytes { Pulls (Some self.old.rest) (Some self.new.rest) result buf.new }
         ensures cause { HasCause self.old.faults self.new.faults result }
-        ensures keeps { Unit {0} }
         ensures does { PullsInMemory self.old self.new result (length buf.new) }
     {
         let fails = self.fails.contains(&self.calls);
@@ -68,51 +68,36 @@ impl Source for MemorySource {
     }
 }
 
-/// A source of bytes in memory, none of whose pulls fails.
-#[derive(Drop)]
-pub struct NeverFails {
-    supply: Supply,
-}
+#[cfg(test)]
+mod tests {
+    use super::*;
+    use std::test::Fail;
 
-impl Model for NeverFails {
-    ghost use Rattle.orb_io.specs.Memory.{SupplyState};
-
-    ghost Value = { SupplyState };
-
-    ghost view = { λ s. s.supply };
-}
-
-impl NeverFails {
-    /// Gives `bytes`, at most `piece` of them for each pull.
-    pub fn new(bytes: Vec<u8>, piece: usize) -> NeverFails
-        requires { 1 ≤ piece }
-        ensures { result ≡ record { rest = bytes.items; piece = piece } }
-    {
-        NeverFails {
-            supply: Supply::new(bytes, piece),
+    #[test]
+    fn gives_pieces_and_fails_at_its_calls(rt: HostRuntime) -> Result<(), Fail> {
+        let bytes = b"abcdefgh".to_vec(rt.alloc())?;
+        let fails = [2, 6].to_vec(rt.alloc())?;
+        let mut source = MemorySource::new(bytes, 3, fails);
+        let mut buf = [0u8; 5];
+        // The room for each pull, and what it gives; none where it fails.
+        let pulls = [
+            (5, Some("abc")),
+            (2, Some("de")),
+            (5, None),
+            (0, Some("")),
+            (5, Some("fgh")),
+            (5, Some("")),
+            (0, None),
+            (5, Some("")),
+        ];
+        for (room, want) in pulls {
+            assert!(rt; room <= 5);
+            let given = match source.pull(&mut buf[..room]) {
+                Ok(count) => Some(&buf[..count]),
+                Err(Failed) => None,
+            };
+            assert_eq!(rt; given, want.map(|text| text.as_bytes()));
         }
-    }
-}
-
-impl Source for NeverFails {
-    ghost left = { λ s. Some s.rest };
-
-    ghost faults = { λ _. 0 };
-
-    ghost kept = { λ _ _. Unit {0} };
-
-    ghost kept_reflexive = { λ _. tt };
-
-    ghost kept_transitive = { λ _ _ _ _ _. tt };
-
-    fn pull(&mut self, buf: &mut [u8]) -> Result<usize, Failed>
-        ensures bound { ReadsAtMost result buf.new }
-        ensures bytes { Pulls (Some self.old.rest) (Some self.new.rest) result buf.new }
-        ensures cause { HasCause 0 0 result }
-        ensures keeps { Unit {0} }
-        ensures gives { result ≡ Ok (given_count self.old.rest self.old.piece (length buf.new)) }
-        ensures piece { self.new.piece ≡ self.old.piece }
-    {
-        Ok(self.supply.give(buf))
+        Ok(())
     }
 }

@@ -1,19 +1,8 @@
-//! What the objects in memory have in common: a supply of bytes, and the count of faults.
-ghost use Rattle.std.specs.Prelude.{◌≡◌, ◌++◌, ◌<◌, ◌≤◌, [], drop, take, length};
-ghost use Rattle.orb_io.specs.Told.{Rose};
-ghost use Rattle.orb_io.specs.Memory.{given_count, one_more};
+//! A supply of bytes, as the sources in memory give them.
+ghost use Rattle.std.specs.Prelude.{◌≡◌, ◌++◌, ◌<◌, ◌≤◌, [], take, drop, length};
+ghost use Rattle.orb_io.specs.Memory.{given_count};
 
-use crate::outside::Failed;
 use std::marker::Model;
-
-/// Counts one fault more.
-pub(crate) fn raised(faults: &mut u64) -> Failed
-    ensures after { faults.new ≡ one_more faults.old }
-    ensures rose { Rose faults.old faults.new }
-{
-    *faults = faults.saturating_add(1);
-    Failed
-}
 
 /// Bytes that are given from the front, at most `piece` at a time.
 #[derive(Drop)]

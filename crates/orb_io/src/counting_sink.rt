@@ -59,10 +59,26 @@ impl Sink for CountingSink {
         ensures bytes { Pushes None None (Some (min self.old (2 ^ 64 - 1)))
             (Some (min self.new (2 ^ 64 - 1))) result piece.now }
         ensures cause { HasCause 0 0 result }
-        ensures keeps { Unit {0} }
         ensures count { self.new ≡ min (self.old + length piece.now) (2 ^ 64 - 1) }
     {
         self.count = self.count.saturating_add(piece.len() as u64);
         Ok(())
+    }
+}
+
+#[cfg(test)]
+mod tests {
+    use super::*;
+
+    #[test]
+    fn counts_up_to_the_last_number(rt: HostRuntime) {
+        let mut sink = CountingSink::new();
+        for (piece, count) in [("abc", 3), ("", 3), ("de", 5)] {
+            assert_eq!(rt; sink.push(piece.as_bytes()), Ok(()));
+            assert_eq!(rt; sink.count(), count);
+        }
+        sink.count = u64::MAX - 1;
+        assert_eq!(rt; sink.push(b"abc"), Ok(()));
+        assert_eq!(rt; sink.count(), u64::MAX);
     }
 }
