@@ -1,12 +1,15 @@
 -- How losses, gains and counts of faults go together, call after call.
-use Rattle.std.proofs.Common.{◌≡◌, ℕ, ◌+◌, ◌-◌, ◌^◌, ◌≤◌, List, [], ◌++◌, length, Option, None, Some, Result, Ok, Err, refl, sym, ap, ◌∙◌, arith, append_assoc, length-append, IfSome}
+use Rattle.std.proofs.Common.{◌≡◌, ℕ, ◌+◌, ◌-◌, ◌^◌, ◌≤◌, List, [], ◌++◌, length, take, Option, None, Some, Result, Ok, Err, refl, sym, ap, ◌∙◌, arith, append_assoc, length-append, IfSome}
 use Rattle.std.proofs.lemmas.List.{append-nil}
-use Rattle.orb_io.specs.Told.{Loses, GainsBytes, GainsNumber, Gains, GainsPrefix, IsPrefix, Rose, HasCause}
+use Rattle.orb_io.specs.Told.{Loses, GainsBytes, GainsNumber, Gains, GainsPrefix, IsPrefix, Rose, HasCause, Pulls, Pushes}
 
 -- nothing is lost where nothing changes
 pub Loses-none : (left : Option (List ℕ)) → Loses left left []
 Loses-none None = tt
 Loses-none (Some left) = refl
+
+pub Loses-equal : (a b : Option (List ℕ)) → b ≡ a → Loses a b []
+Loses-equal a b same = rw same (Loses-none a)
 
 -- an object that lost nothing tells the same bytes
 pub Loses-none-same : (a b : Option (List ℕ)) → Loses a b [] → b ≡ a
@@ -59,6 +62,10 @@ pub Gains-none : (put : Option (List ℕ)) (size : Option ℕ) → IfSome size (
     → Gains put put size size []
 Gains-none put size fits = record { bytes = GainsBytes-none put; number = GainsNumber-none size fits }
 
+pub Gains-equal : (a b : Option (List ℕ)) (m n : Option ℕ) → IfSome m (λ k. k ≤ 2 ^ 64 - 1)
+    → b ≡ a → n ≡ m → Gains a b m n []
+Gains-equal a b m n fits same_put same_size = rw (same_put, same_size) (Gains-none a m fits)
+
 -- two gains, one after the other
 pub GainsBytes-twice : (a b c : Option (List ℕ)) (xs ys : List ℕ)
     → GainsBytes a b xs → GainsBytes b c ys → GainsBytes a c (xs ++ ys)
@@ -101,6 +108,18 @@ GainsPrefix-longer a b m n piece longer within gained =
 pub GainsPrefix-all : (a b : Option (List ℕ)) (m n : Option ℕ) (piece : List ℕ)
     → Gains a b m n piece → GainsPrefix a b m n piece
 GainsPrefix-all a b m n piece gained = (piece, IsPrefix-all piece, gained)
+
+-- whatever a push answers, it put a front of the piece
+pub Pushes-front : {T E : Type 0} (a b : Option (List ℕ)) (m n : Option ℕ) (r : Result T E) (piece : List ℕ)
+    → Pushes a b m n r piece → GainsPrefix a b m n piece
+Pushes-front a b m n (Ok done) piece pushed = GainsPrefix-all a b m n piece pushed
+Pushes-front a b m n (Err failed) piece pushed = pushed
+
+-- whatever a pull answers, some bytes were lost
+pub Pulls-lost : {E : Type 0} (a b : Option (List ℕ)) (r : Result ℕ E) (buf : List ℕ)
+    → Pulls a b r buf → (lost : List ℕ) × Loses a b lost
+Pulls-lost a b (Ok n) buf pulled = (take n buf, pulled.0)
+Pulls-lost a b (Err failed) buf pulled = ([], pulled)
 
 -- a count that rose still did where it only grew since, or before
 pub Rose-then : (a b c : ℕ) → Rose a b → b ≤ c → Rose a c

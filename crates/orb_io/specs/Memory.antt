@@ -1,5 +1,5 @@
 -- The sources, sinks and links in memory as their contracts see them, and what one call on them does.
-use Rattle.std.specs.Prelude.{◌≡◌, ℕ, ◌+◌, ◌-◌, Bool, true, false, ◌||◌, ◌==◌, nat_lt, min, List, [], ◌++◌, length, take, drop, Result, Ok, Err, if◌then◌else◌}
+use Rattle.std.specs.Prelude.{◌≡◌, ℕ, ◌+◌, ◌-◌, ◌^◌, Bool, true, false, ◌||◌, ◌==◌, nat_lt, min, List, [], ◌++◌, length, take, drop, Option, Some, Result, Ok, Err, if◌then◌else◌}
 use Rattle.std.specs.List.{list_any}
 use Rattle.orb_io.specs.Counts.{one_more}
 
@@ -8,7 +8,8 @@ pub record SupplyState : Type 0 where
   pub rest : List ℕ
   pub piece : ℕ
 
--- a source: its supply, the numbers of the pulls that fail, and how many pulls and faults there were
+-- a source: its supply, the numbers of the pulls that fail, and how many pulls and faults there
+-- were
 pub record SourceState : Type 0 where
   pub rest : List ℕ
   pub piece : ℕ
@@ -16,7 +17,8 @@ pub record SourceState : Type 0 where
   pub calls : ℕ
   pub faults : ℕ
 
--- a sink: its bytes, the most that it takes, the numbers of the pushes that fail, and how many pushes and faults there were
+-- a sink: its bytes, the most that it takes, the numbers of the pushes that fail, and how many
+-- pushes and faults there were
 pub record SinkState : Type 0 where
   pub bytes : List ℕ
   pub room : ℕ
@@ -37,7 +39,8 @@ fails_at fails call = list_any (λ n. n == call) fails
 abbrev pub given_count : List ℕ → ℕ → ℕ → ℕ
 given_count rest piece room = min (min piece room) (length rest)
 
--- a pull into that much room: it fails at its number, with nothing taken, and else gives the next bytes
+-- a pull into that much room: it fails, with nothing taken, exactly where its number is one that
+-- does, and else gives the next bytes
 abbrev pub PullsInMemory : {E : Type 0} → SourceState → SourceState → Result ℕ E → ℕ → Type 0
 PullsInMemory s s' (Ok n) room =
     (fails_at s.fails s.calls ≡ false)
@@ -46,6 +49,10 @@ PullsInMemory s s' (Ok n) room =
 PullsInMemory s s' (Err failed) room =
     (fails_at s.fails s.calls ≡ true)
     × (s' ≡ record s { calls = one_more s.calls; faults = one_more s.faults })
+
+-- the size that a sink in memory tells of its bytes
+abbrev pub told_size : List ℕ → Option ℕ
+told_size bytes = Some (min (length bytes) (2 ^ 64 - 1))
 
 -- whether a push fails: its number is one that does, or the piece doesn't fit
 abbrev pub refuses : SinkState → List ℕ → Bool
@@ -62,4 +69,8 @@ PushesInMemory s s' (Ok done) piece =
     × (s' ≡ record s { bytes = s.bytes ++ piece; calls = one_more s.calls })
 PushesInMemory s s' (Err failed) piece =
     (refuses s piece ≡ true)
-    × (s' ≡ record s { bytes = s.bytes ++ taken_of s piece; calls = one_more s.calls; faults = one_more s.faults })
+    × (s' ≡ record s {
+      bytes = s.bytes ++ taken_of s piece;
+      calls = one_more s.calls;
+      faults = one_more s.faults;
+    })

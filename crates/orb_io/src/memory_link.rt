@@ -1,8 +1,8 @@
 //! A link in memory.
-ghost use Rattle.std.specs.Prelude.{◌≡◌, ◌-◌, ◌^◌, min, Some, length};
+ghost use Rattle.std.specs.Prelude.{◌≡◌, ◌-◌, ◌^◌, Some, length};
 ghost use Rattle.std.specs.Io.{ReadsAtMost};
 ghost use Rattle.orb_io.specs.Told.{Pulls, Pushes, HasCause};
-ghost use Rattle.orb_io.specs.Memory.{PullsInMemory, PushesInMemory};
+ghost use Rattle.orb_io.specs.Memory.{PullsInMemory, PushesInMemory, told_size};
 ghost use Rattle.std.proofs.Common.{refl, ap, ◌∙◌};
 ghost use Rattle.std.proofs.Math.Nat.{min-le_right as min_le_right};
 
@@ -67,7 +67,7 @@ impl Source for MemoryLink {
 impl Sink for MemoryLink {
     ghost put = { λ s. Some s.sink.bytes };
 
-    ghost size = { λ s. Some (min (length s.sink.bytes) (2 ^ 64 - 1)) };
+    ghost size = { λ s. told_size s.sink.bytes };
 
     ghost faults = { λ s. s.sink.faults };
 
@@ -83,9 +83,7 @@ impl Sink for MemoryLink {
 
     fn push(&mut self, piece: &[u8]) -> Result<(), Failed>
         ensures bytes { Pushes (Some self.old.sink.bytes) (Some self.new.sink.bytes)
-            (Some (min (length self.old.sink.bytes) (2 ^ 64 - 1)))
-            (Some (min (length self.new.sink.bytes) (2 ^ 64 - 1)))
-            result piece.now }
+            (told_size self.old.sink.bytes) (told_size self.new.sink.bytes) result piece.now }
         ensures cause { HasCause self.old.sink.faults self.new.sink.faults result }
         ensures keeps { self.new.source ≡ self.old.source }
         ensures does { PushesInMemory self.old.sink self.new.sink result piece.now }
@@ -97,7 +95,7 @@ impl Sink for MemoryLink {
 impl Duplex for MemoryLink {
     ghost pull_leaves_put = { λ _ _ same. ap (λ k. Some k.bytes) same };
 
-    ghost pull_leaves_size = { λ _ _ same. ap (λ k. Some (min (length k.bytes) (2 ^ 64 - 1))) same };
+    ghost pull_leaves_size = { λ _ _ same. ap (λ k. told_size k.bytes) same };
 
     ghost pull_leaves_faults = { λ _ _ same. ap (λ k. k.faults) same };
 

@@ -1,7 +1,7 @@
 //! A sink in memory.
-ghost use Rattle.std.specs.Prelude.{◌≡◌, ◌+◌, ◌-◌, ◌^◌, ◌≤◌, ◌++◌, min, [], Some, IfOk, length, vec_len, vec_capacity};
+ghost use Rattle.std.specs.Prelude.{◌≡◌, ◌+◌, ◌-◌, ◌^◌, ◌≤◌, ◌++◌, [], Some, IfOk, length, vec_len, vec_capacity};
 ghost use Rattle.orb_io.specs.Told.{Pushes, HasCause};
-ghost use Rattle.orb_io.specs.Memory.{PushesInMemory};
+ghost use Rattle.orb_io.specs.Memory.{PushesInMemory, told_size};
 ghost use Rattle.std.proofs.Common.{refl};
 ghost use Rattle.std.proofs.Math.Nat.{min-le_right as min_le_right};
 
@@ -26,7 +26,13 @@ impl Model for MemorySink {
 
     ghost Value = { SinkState };
 
-    ghost view = { λ s. record { bytes = s.bytes.items; room = s.room; fails = s.fails.items; calls = s.calls; faults = s.faults } };
+    ghost view = { λ s. record {
+      bytes = s.bytes.items;
+      room = s.room;
+      fails = s.fails.items;
+      calls = s.calls;
+      faults = s.faults;
+    } };
 
     ghost invariant = { λ s. (length s.bytes.items ≤ s.room) × (s.room ≤ vec_capacity s.bytes) };
 }
@@ -35,7 +41,13 @@ impl MemorySink {
     /// Reserves room for `room` bytes. The pushes whose numbers, from 0, stand in `fails` take
     /// nothing and fail; one whose piece doesn't fit takes what fits and fails.
     pub fn open(alloc: Global, room: usize, fails: Vec<u64>) -> Result<MemorySink, NoMemory>
-        ensures { IfOk result (λ s. s ≡ record { bytes = []; room = room; fails = fails.items; calls = 0; faults = 0 }) }
+        ensures { IfOk result (λ s. s ≡ record {
+          bytes = [];
+          room = room;
+          fails = fails.items;
+          calls = 0;
+          faults = 0;
+        }) }
     {
         match Vec::with_capacity(alloc, room) {
             Ok(bytes) => Ok(MemorySink {
@@ -60,7 +72,7 @@ impl MemorySink {
 impl Sink for MemorySink {
     ghost put = { λ s. Some s.bytes };
 
-    ghost size = { λ s. Some (min (length s.bytes) (2 ^ 64 - 1)) };
+    ghost size = { λ s. told_size s.bytes };
 
     ghost faults = { λ s. s.faults };
 
@@ -76,9 +88,7 @@ impl Sink for MemorySink {
 
     fn push(&mut self, piece: &[u8]) -> Result<(), Failed>
         ensures bytes { Pushes (Some self.old.bytes) (Some self.new.bytes)
-            (Some (min (length self.old.bytes) (2 ^ 64 - 1)))
-            (Some (min (length self.new.bytes) (2 ^ 64 - 1)))
-            result piece.now }
+            (told_size self.old.bytes) (told_size self.new.bytes) result piece.now }
         ensures cause { HasCause self.old.faults self.new.faults result }
         ensures does { PushesInMemory self.old self.new result piece.now }
     {

@@ -23,7 +23,13 @@ impl Model for MemorySource {
 
     ghost Value = { SourceState };
 
-    ghost view = { λ s. record { rest = s.supply.rest; piece = s.supply.piece; fails = s.fails.items; calls = s.calls; faults = s.faults } };
+    ghost view = { λ s. record {
+      rest = s.supply.rest;
+      piece = s.supply.piece;
+      fails = s.fails.items;
+      calls = s.calls;
+      faults = s.faults;
+    } };
 }
 
 impl MemorySource {
@@ -31,7 +37,13 @@ impl MemorySource {
     /// in `fails` fail, also at the end and where the buffer is empty.
     pub fn new(bytes: Vec<u8>, piece: usize, fails: Vec<u64>) -> MemorySource
         requires { 1 ≤ piece }
-        ensures { result ≡ record { rest = bytes.items; piece = piece; fails = fails.items; calls = 0; faults = 0 } }
+        ensures { result ≡ record {
+          rest = bytes.items;
+          piece = piece;
+          fails = fails.items;
+          calls = 0;
+          faults = 0;
+        } }
     {
         MemorySource {
             supply: Supply::new(bytes, piece),

@@ -1,5 +1,7 @@
-//! The adapters over std's readers and writers. What a reader or a writer does outside the program
-//! is trusted to be as std's traits say.
+//! The adapters over std's readers and writers.
+//!
+//! They tell neither bytes nor numbers, since nothing is known of a file or a socket. Where a reader
+//! or a writer does tell its bytes in std's words, the adapters' own clauses say what became of them.
 ghost use Rattle.std.specs.Prelude.{◌≡◌, None};
 ghost use Rattle.std.specs.Io.{ReadsAtMost};
 ghost use Rattle.std.specs.Io.KnownBytes.{ReadConsumes};
@@ -36,7 +38,7 @@ impl<R: Read> Source for StdSource<R> {
 
     ghost left = { λ _. None };
 
-    ghost faults = { λ s. s.faults };
+    ghost faults = { λ s. read_faults s };
 
     ghost kept = { λ _ _. Unit {0} };
 
@@ -50,7 +52,8 @@ impl<R: Read> Source for StdSource<R> {
         ensures bytes { Pulls None None result buf.new }
         ensures cause { HasCause (read_faults self.old) (read_faults self.new) result }
         ensures counts { CountsFault (read_faults self.old) (read_faults self.new) result }
-        ensures reads { ReadConsumes (R.remaining (reader_of self.old)) (R.remaining (reader_of self.new)) result buf.new }
+        ensures reads { ReadConsumes (R.remaining (reader_of self.old))
+            (R.remaining (reader_of self.new)) result buf.new }
     {
         match self.inner.read(buf) {
             Ok(count) => Ok(count),
@@ -85,7 +88,7 @@ impl<W: Write> Sink for StdSink<W> {
 
     ghost size = { λ _. None };
 
-    ghost faults = { λ s. s.faults };
+    ghost faults = { λ s. write_faults s };
 
     ghost kept = { λ _ _. Unit {0} };
 
@@ -103,7 +106,8 @@ impl<W: Write> Sink for StdSink<W> {
         ensures bytes { Pushes None None None None result piece.now }
         ensures cause { HasCause (write_faults self.old) (write_faults self.new) result }
         ensures counts { CountsFault (write_faults self.old) (write_faults self.new) result }
-        ensures writes { PushAppends (W.contents (writer_of self.old)) (W.contents (writer_of self.new)) result piece.now }
+        ensures writes { PushAppends (W.contents (writer_of self.old))
+            (W.contents (writer_of self.new)) result piece.now }
     {
         match write_and_flush(&mut self.inner, piece) {
             Ok(()) => Ok(()),
