@@ -29,16 +29,18 @@ GainsNumber (Some before) None n = ⊥
 GainsNumber (Some before) (Some after) n = after ≡ min (before + n) (2 ^ 64 - 1)
 
 -- what was put and its size grew by these bytes
-pub record Gains (put put' : Option (List ℕ)) (size size' : Option ℕ) (gained : List ℕ) : Type 0 where
-  pub bytes : GainsBytes put put' gained
-  pub number : GainsNumber size size' (length gained)
+pub record Gains (put put' : Option (List ℕ)) (size size' : Option ℕ) (gained : List ℕ) : Type 0
+  where
+    pub bytes : GainsBytes put put' gained
+    pub number : GainsNumber size size' (length gained)
 
 -- the text begins with the front
 abbrev pub IsPrefix : List ℕ → List ℕ → Type 0
 IsPrefix front text = (rest : List ℕ) × (text ≡ front ++ rest)
 
 -- what was put and its size grew by some front of the piece
-abbrev pub GainsPrefix : Option (List ℕ) → Option (List ℕ) → Option ℕ → Option ℕ → List ℕ → Type 0
+abbrev pub GainsPrefix : Option (List ℕ) → Option (List ℕ) → Option ℕ → Option ℕ → List ℕ
+    → Type 0
 GainsPrefix put put' size size' piece =
     (front : List ℕ) × IsPrefix front piece × Gains put put' size size' front
 
@@ -57,12 +59,14 @@ abbrev pub HasCause : {T E : Type 0} → ℕ → ℕ → Result T E → Type 0
 HasCause before after (Ok value) = after ≡ before
 HasCause before after (Err failed) = Rose before after
 
--- a pull gave the first n bytes of the buffer, none only at the end or with no room, and at an `Err` took nothing
+-- a pull gave the first n bytes of the buffer, none only at the end or with no room;
+-- at an `Err` it took nothing
 abbrev pub Pulls : {E : Type 0} → Option (List ℕ) → Option (List ℕ) → Result ℕ E → List ℕ → Type 0
 Pulls left left' (Ok n) buf = Loses left left' (take n buf) × (n ≡ 0 → 0 < length buf → IsAtEnd left')
 Pulls left left' (Err failed) buf = Loses left left' []
 
 -- a push put the whole piece, and at an `Err` some front of it
-abbrev pub Pushes : {T E : Type 0} → Option (List ℕ) → Option (List ℕ) → Option ℕ → Option ℕ → Result T E → List ℕ → Type 0
+abbrev pub Pushes : {T E : Type 0} → Option (List ℕ) → Option (List ℕ) → Option ℕ → Option ℕ
+    → Result T E → List ℕ → Type 0
 Pushes put put' size size' (Ok done) piece = Gains put put' size size' piece
 Pushes put put' size size' (Err failed) piece = GainsPrefix put put' size size' piece
