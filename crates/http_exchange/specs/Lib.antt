@@ -1,0 +1,4 @@
+pub mod Head
+pub mod Fields
+pub mod Heads
+pub mod First
