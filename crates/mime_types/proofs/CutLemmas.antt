@@ -1,0 +1,351 @@
+-- A text is cut in one way at most.
+use Rattle.std.proofs.Common.{◌≡◌, ℕ, Bool, true, false, not, nat_eq, List, [], ◌∷◌, ◌++◌, refl, sym, ap, ◌∙◌, ◌&&◌, ◌||◌, append_assoc, inl, inr, if◌then◌else◌, arith}
+use Rattle.std.specs.List.{list_all, flat_map}
+use Rattle.std.proofs.lemmas.Bool.{and_parts, and_from, eqb-true}
+use Rattle.std.proofs.lemmas.Bool.Decides.{eqb_tells}
+use Rattle.orb_bytes.specs.Bytes.{is_http_whitespace, is_token_byte}
+use Rattle.mime_types.specs.Spans.{begins_outside}
+use Rattle.mime_types.specs.Mime.{is_empty, QuotedUnit, itself, escaped, print_unit, is_unit, Close, by_quote, by_end, by_backslash, print_close, is_at_end, Assigned, nothing, quoted, plain, print_assigned, is_no_semicolon, is_assigned, is_last, Segment, print_segment, is_name_byte, is_segment, print_segments, are_segments, is_token, Cut, IsCut, mime_of, HasOneRecord}
+use Rattle.mime_types.proofs.SpanLemmas.{span_unique}
+
+-- what may stand behind the units of a quoted string
+abbrev pub stops_units : List ℕ → Bool
+stops_units [] = true
+stops_units (b ∷ text) = nat_eq b 34 || (nat_eq b 92 && is_empty text)
+
+-- a unit that stands for itself begins nothing that stands behind units
+not_both : (quote slash last : Bool) → not (quote || slash) ≡ true → (quote || (slash && last)) ≡ true → ⊥
+not_both true slash last unit stop = cc
+not_both false true last unit stop = cc
+not_both false false last unit stop = cc
+
+itself_never_stops : (b c : ℕ) (x : List ℕ) → is_unit (itself b) ≡ true → stops_units (c ∷ x) ≡ true → c ≡ b → ⊥
+itself_never_stops b c x unit stop same =
+    not_both (nat_eq c 34) (nat_eq c 92) (is_empty x) (ap (λ e. is_unit (itself e)) same ∙ unit) stop
+
+escaped_never_stops : (b : ℕ) (x y : List ℕ) → stops_units x ≡ true → x ≡ 92 ∷ (b ∷ y) → ⊥
+escaped_never_stops b x y stop same =
+    let lie : true ≡ false = sym stop ∙ ap stops_units same in cc
+
+never_backslash : (b : ℕ) → is_unit (itself b) ≡ true → b ≡ 92 → ⊥
+never_backslash b unit same =
+    let lie : false ≡ true = ap (λ e. is_unit (itself e)) (sym same) ∙ unit in cc
+
+rest_are_units : (u : QuotedUnit) (us : List QuotedUnit) → list_all is_unit (u ∷ us) ≡ true
+    → (is_unit u ≡ true) × (list_all is_unit us ≡ true)
+rest_are_units u us are = and_parts (is_unit u) (list_all is_unit us) are
+
+pub units_unique : (us vs : List QuotedUnit) (x y : List ℕ) → list_all is_unit us ≡ true
+    → list_all is_unit vs ≡ true → stops_units x ≡ true → stops_units y ≡ true
+    → flat_map print_unit us ++ x ≡ flat_map print_unit vs ++ y → (us ≡ vs) × (x ≡ y)
+units_unique [] [] x y us_are vs_are xs ys same = (refl, same)
+units_unique [] (itself b ∷ vs) [] y us_are vs_are xs ys same = absurd (cc)
+units_unique [] (itself b ∷ vs) (c ∷ x) y us_are vs_are xs ys same =
+    absurd (itself_never_stops b c x (rest_are_units (itself b) vs vs_are).0 xs (cc))
+units_unique [] (escaped b ∷ vs) x y us_are vs_are xs ys same =
+    absurd (escaped_never_stops b x (flat_map print_unit vs ++ y) xs same)
+units_unique (itself b ∷ us) [] x [] us_are vs_are xs ys same = absurd (cc)
+units_unique (itself b ∷ us) [] x (c ∷ y) us_are vs_are xs ys same =
+    absurd (itself_never_stops b c y (rest_are_units (itself b) us us_are).0 ys (cc))
+units_unique (escaped b ∷ us) [] x y us_are vs_are xs ys same =
+    absurd (escaped_never_stops b y (flat_map print_unit us ++ x) ys (sym same))
+units_unique (itself b ∷ us) (itself c ∷ vs) x y us_are vs_are xs ys same =
+    let bytes : b ≡ c = cc in
+    let rest : flat_map print_unit us ++ x ≡ flat_map print_unit vs ++ y = cc in
+    let parts = units_unique us vs x y (rest_are_units (itself b) us us_are).1
+    (rest_are_units (itself c) vs vs_are).1 xs ys rest in
+    let units : us ≡ vs = parts.0 in
+    (cc, parts.1)
+units_unique (itself b ∷ us) (escaped c ∷ vs) x y us_are vs_are xs ys same =
+    absurd (never_backslash b (rest_are_units (itself b) us us_are).0 (cc))
+units_unique (escaped b ∷ us) (itself c ∷ vs) x y us_are vs_are xs ys same =
+    absurd (never_backslash c (rest_are_units (itself c) vs vs_are).0 (cc))
+units_unique (escaped b ∷ us) (escaped c ∷ vs) x y us_are vs_are xs ys same =
+    let bytes : b ≡ c = cc in
+    let rest : flat_map print_unit us ++ x ≡ flat_map print_unit vs ++ y = cc in
+    let parts = units_unique us vs x y (rest_are_units (escaped b) us us_are).1
+    (rest_are_units (escaped c) vs vs_are).1 xs ys rest in
+    let units : us ≡ vs = parts.0 in
+    (cc, parts.1)
+
+-- what stands behind the units of a valid segment stops them
+pub close_stops : (c : Close) (i r : List ℕ)
+    → (if is_at_end c then is_empty i else list_all is_no_semicolon i) ≡ true
+    → (is_at_end c ≡ true → r ≡ []) → stops_units (print_close c ++ (i ++ r)) ≡ true
+close_stops by_quote i r ignored end = refl
+close_stops by_end [] r ignored end = rw (end refl) refl
+close_stops by_end (b ∷ i) r ignored end = absurd (cc)
+close_stops by_backslash [] r ignored end = rw (end refl) refl
+close_stops by_backslash (b ∷ i) r ignored end = absurd (cc)
+
+pub close_unique : (c d : Close) (i j r q : List ℕ)
+    → (if is_at_end c then is_empty i else list_all is_no_semicolon i) ≡ true
+    → (if is_at_end d then is_empty j else list_all is_no_semicolon j) ≡ true
+    → (is_at_end c ≡ true → r ≡ []) → (is_at_end d ≡ true → q ≡ [])
+    → begins_outside is_no_semicolon r ≡ true → begins_outside is_no_semicolon q ≡ true
+    → print_close c ++ (i ++ r) ≡ print_close d ++ (j ++ q) → (c ≡ d) × (i ≡ j) × (r ≡ q)
+close_unique by_quote by_quote i j r q is_i is_j end_r end_q out_r out_q same =
+    let rest : i ++ r ≡ j ++ q = cc in
+    let parts = span_unique is_no_semicolon i j r q is_i is_j out_r out_q rest in
+    (refl, parts.0, parts.1)
+close_unique by_quote by_end i [] r q is_i is_j end_r end_q out_r out_q same =
+    let nothing_left = end_q refl in absurd (cc)
+close_unique by_quote by_end i (b ∷ j) r q is_i is_j end_r end_q out_r out_q same = absurd (cc)
+close_unique by_quote by_backslash i j r q is_i is_j end_r end_q out_r out_q same =
+    let lie : ◌≡◌ {A = ℕ} 34 92 = cc in absurd (omega arith)
+close_unique by_end by_quote [] j r q is_i is_j end_r end_q out_r out_q same =
+    let nothing_left = end_r refl in absurd (cc)
+close_unique by_end by_quote (b ∷ i) j r q is_i is_j end_r end_q out_r out_q same = absurd (cc)
+close_unique by_end by_end [] [] r q is_i is_j end_r end_q out_r out_q same = (refl, refl, same)
+close_unique by_end by_end [] (b ∷ j) r q is_i is_j end_r end_q out_r out_q same = absurd (cc)
+close_unique by_end by_end (b ∷ i) j r q is_i is_j end_r end_q out_r out_q same = absurd (cc)
+close_unique by_end by_backslash [] j r q is_i is_j end_r end_q out_r out_q same =
+    let nothing_left = end_r refl in absurd (cc)
+close_unique by_end by_backslash (b ∷ i) j r q is_i is_j end_r end_q out_r out_q same = absurd (cc)
+close_unique by_backslash by_quote i j r q is_i is_j end_r end_q out_r out_q same =
+    let lie : ◌≡◌ {A = ℕ} 92 34 = cc in absurd (omega arith)
+close_unique by_backslash by_end i [] r q is_i is_j end_r end_q out_r out_q same =
+    let nothing_left = end_q refl in absurd (cc)
+close_unique by_backslash by_end i (b ∷ j) r q is_i is_j end_r end_q out_r out_q same = absurd (cc)
+close_unique by_backslash by_backslash [] [] r q is_i is_j end_r end_q out_r out_q same =
+    let rest : r ≡ q = cc in (refl, refl, rest)
+close_unique by_backslash by_backslash [] (b ∷ j) r q is_i is_j end_r end_q out_r out_q same = absurd (cc)
+close_unique by_backslash by_backslash (b ∷ i) j r q is_i is_j end_r end_q out_r out_q same = absurd (cc)
+
+-- what a plain value begins with is no quote
+plain_never_quoted : (v : List ℕ) (r x : List ℕ) → begins_outside (λ b. nat_eq b 34) v ≡ true
+    → begins_outside is_no_semicolon r ≡ true → v ++ r ≡ 34 ∷ x → ⊥
+plain_never_quoted [] [] x unquoted out same = cc
+plain_never_quoted [] (b ∷ r) x unquoted out same =
+    let first : b ≡ 34 = cc in
+    let lie : false ≡ true = ap (λ e. begins_outside is_no_semicolon (e ∷ r)) (sym first) ∙ out in cc
+plain_never_quoted (b ∷ v) r x unquoted out same =
+    let first : b ≡ 34 = cc in
+    let lie : false ≡ true = ap (λ e. begins_outside (λ b. nat_eq b 34) (e ∷ v)) (sym first) ∙ unquoted in cc
+
+-- nothing is assigned where no `=` stands
+never_equals : (r x : List ℕ) → begins_outside is_no_semicolon r ≡ true → r ≡ 61 ∷ x → ⊥
+never_equals r x out same =
+    let lie : false ≡ true = sym (ap (begins_outside is_no_semicolon) same) ∙ out in cc
+
+pub assigned_unique : (f g : Assigned) (r q : List ℕ) → is_assigned f ≡ true → is_assigned g ≡ true
+    → (is_last f ≡ true → r ≡ []) → (is_last g ≡ true → q ≡ [])
+    → begins_outside is_no_semicolon r ≡ true → begins_outside is_no_semicolon q ≡ true
+    → print_assigned f ++ r ≡ print_assigned g ++ q → (f ≡ g) × (r ≡ q)
+assigned_unique nothing nothing r q is_f is_g end_r end_q out_r out_q same = (refl, same)
+assigned_unique nothing (quoted us c i) r q is_f is_g end_r end_q out_r out_q same =
+    absurd (never_equals r _ out_r same)
+assigned_unique nothing (plain v) r q is_f is_g end_r end_q out_r out_q same =
+    absurd (never_equals r _ out_r same)
+assigned_unique (quoted us c i) nothing r q is_f is_g end_r end_q out_r out_q same =
+    absurd (never_equals q _ out_q (sym same))
+assigned_unique (plain v) nothing r q is_f is_g end_r end_q out_r out_q same =
+    absurd (never_equals q _ out_q (sym same))
+assigned_unique (quoted us c i) (plain v) r q is_f is_g end_r end_q out_r out_q same =
+    let rest : v ++ q ≡ 34 ∷ ((flat_map print_unit us ++ (print_close c ++ i)) ++ r) = cc in
+    absurd (plain_never_quoted v q _
+    (and_parts (begins_outside (λ b. nat_eq b 34) v) (list_all is_no_semicolon v) is_g).0 out_q rest)
+assigned_unique (plain v) (quoted us c i) r q is_f is_g end_r end_q out_r out_q same =
+    let rest : v ++ r ≡ 34 ∷ ((flat_map print_unit us ++ (print_close c ++ i)) ++ q) = cc in
+    absurd (plain_never_quoted v r _
+    (and_parts (begins_outside (λ b. nat_eq b 34) v) (list_all is_no_semicolon v) is_f).0 out_r rest)
+assigned_unique (plain v) (plain w) r q is_f is_g end_r end_q out_r out_q same =
+    let rest : v ++ r ≡ w ++ q = cc in
+    let parts = span_unique is_no_semicolon v w r q
+    (and_parts (begins_outside (λ b. nat_eq b 34) v) (list_all is_no_semicolon v) is_f).1
+    (and_parts (begins_outside (λ b. nat_eq b 34) w) (list_all is_no_semicolon w) is_g).1 out_r out_q rest in
+    (ap plain parts.0, parts.1)
+assigned_unique (quoted us c i) (quoted vs d j) r q is_f is_g end_r end_q out_r out_q same =
+    let units_f = and_parts (list_all is_unit us) (if is_at_end c then is_empty i else list_all is_no_semicolon i) is_f in
+    let units_g = and_parts (list_all is_unit vs) (if is_at_end d then is_empty j else list_all is_no_semicolon j) is_g in
+    let inner : (flat_map print_unit us ++ (print_close c ++ i)) ++ r ≡ (flat_map print_unit vs ++ (print_close d ++ j)) ++ q = cc in
+    let regrouped : flat_map print_unit us ++ (print_close c ++ (i ++ r)) ≡ flat_map print_unit vs ++ (print_close d ++ (j ++ q)) =
+    simp append_assoc at inner in
+    let units = units_unique us vs (print_close c ++ (i ++ r)) (print_close d ++ (j ++ q)) units_f.0 units_g.0
+    (close_stops c i r units_f.1 end_r) (close_stops d j q units_g.1 end_q) regrouped in
+    let closes = close_unique c d i j r q units_f.1 units_g.1 end_r end_q out_r out_q units.1 in
+    let same_units : us ≡ vs = units.0 in
+    let same_close : c ≡ d = closes.0 in
+    let same_ignored : i ≡ j = closes.1 in
+    (cc, closes.2)
+
+not_not : (b : Bool) → not (not b) ≡ true → b ≡ true
+not_not true is = refl
+not_not false is = absurd (cc)
+
+-- a byte at which bytes other than `;` end
+pub is_semicolon : (b : ℕ) (r : List ℕ) → begins_outside is_no_semicolon (b ∷ r) ≡ true → b ≡ 59
+is_semicolon b r out = eqb-true b 59 (not_not (nat_eq b 59) out)
+
+-- what stands behind a name doesn't go on with it
+pub assigned_begins : (f : Assigned) (r : List ℕ) → begins_outside is_no_semicolon r ≡ true
+    → begins_outside is_name_byte (print_assigned f ++ r) ≡ true
+assigned_begins nothing [] out = refl
+assigned_begins nothing (b ∷ r) out =
+    ap (λ e. begins_outside is_name_byte (e ∷ r)) (is_semicolon b r out)
+assigned_begins (quoted us c i) r out = refl
+assigned_begins (plain v) r out = refl
+
+-- what stands behind the white space of a segment is no white space
+pub name_begins : (name : List ℕ) (f : Assigned) (r : List ℕ) → begins_outside is_http_whitespace name ≡ true
+    → begins_outside is_no_semicolon r ≡ true
+    → begins_outside is_http_whitespace (name ++ (print_assigned f ++ r)) ≡ true
+name_begins [] nothing [] outside out = refl
+name_begins [] nothing (b ∷ r) outside out =
+    ap (λ e. begins_outside is_http_whitespace (e ∷ r)) (is_semicolon b r out)
+name_begins [] (quoted us c i) r outside out = refl
+name_begins [] (plain v) r outside out = refl
+name_begins (b ∷ name) f r outside out = outside
+
+-- a segment's parts are valid
+pub record AreParts (s : Segment) : Type 0 where
+  pub space : list_all is_http_whitespace s.space ≡ true
+  pub begins : begins_outside is_http_whitespace s.name ≡ true
+  pub name : list_all is_name_byte s.name ≡ true
+  pub assigned : is_assigned s.assigned ≡ true
+
+pub parts_of : (s : Segment) → is_segment s ≡ true → AreParts s
+parts_of s is =
+    let space = and_parts (list_all is_http_whitespace s.space) (begins_outside is_http_whitespace s.name && (list_all is_name_byte s.name && is_assigned s.assigned)) is in
+    let begins = and_parts (begins_outside is_http_whitespace s.name) (list_all is_name_byte s.name && is_assigned s.assigned) space.1 in
+    let name = and_parts (list_all is_name_byte s.name) (is_assigned s.assigned) begins.1 in
+    record { space = space.0; begins = begins.0; name = name.0; assigned = name.1 }
+
+pub segment_unique : (s t : Segment) (r q : List ℕ) → is_segment s ≡ true → is_segment t ≡ true
+    → (is_last s.assigned ≡ true → r ≡ []) → (is_last t.assigned ≡ true → q ≡ [])
+    → begins_outside is_no_semicolon r ≡ true → begins_outside is_no_semicolon q ≡ true
+    → print_segment s ++ r ≡ print_segment t ++ q → (s ≡ t) × (r ≡ q)
+segment_unique s t r q is_s is_t end_r end_q out_r out_q same =
+    let of_s = parts_of s is_s in
+    let of_t = parts_of t is_t in
+    let inner : (s.space ++ (s.name ++ print_assigned s.assigned)) ++ r ≡ (t.space ++ (t.name ++ print_assigned t.assigned)) ++ q = cc in
+    let regrouped : s.space ++ (s.name ++ (print_assigned s.assigned ++ r)) ≡ t.space ++ (t.name ++ (print_assigned t.assigned ++ q)) =
+    simp append_assoc at inner in
+    let spaces = span_unique is_http_whitespace s.space t.space _ _ of_s.space of_t.space
+    (name_begins s.name s.assigned r of_s.begins out_r) (name_begins t.name t.assigned q of_t.begins out_q) regrouped in
+    let names = span_unique is_name_byte s.name t.name _ _ of_s.name of_t.name
+    (assigned_begins s.assigned r out_r) (assigned_begins t.assigned q out_q) spaces.1 in
+    let assigned = assigned_unique s.assigned t.assigned r q of_s.assigned of_t.assigned end_r end_q out_r out_q names.1 in
+    let same_space : s.space ≡ t.space = spaces.0 in
+    let same_name : s.name ≡ t.name = names.0 in
+    let same_assigned : s.assigned ≡ t.assigned = assigned.0 in
+    (λ i. record { space = same_space i; name = same_name i; assigned = same_assigned i }, assigned.1)
+
+pub segments_begin : (ss : List Segment) → begins_outside is_no_semicolon (print_segments ss) ≡ true
+segments_begin [] = refl
+segments_begin (s ∷ ss) = refl
+
+-- what the validity of segments says of the first
+pub record AreFirst (s : Segment) (ss : List Segment) : Type 0 where
+  pub first : is_segment s ≡ true
+  pub last : is_last s.assigned ≡ true → print_segments ss ≡ []
+  pub rest : are_segments ss ≡ true
+
+never_last : (last : Bool) → (not last || false) ≡ true → last ≡ true → ⊥
+never_last true alone is = cc
+never_last false alone is = cc
+
+pub first_of : (s : Segment) (ss : List Segment) → are_segments (s ∷ ss) ≡ true → AreFirst s ss
+first_of s [] are = record { first = (and_parts (is_segment s) _ are).0; last = λ is. refl; rest = refl }
+first_of s (t ∷ ss) are =
+    let first = and_parts (is_segment s) ((not (is_last s.assigned) || false) && are_segments (t ∷ ss)) are in
+    let more = and_parts (not (is_last s.assigned) || false) (are_segments (t ∷ ss)) first.1 in
+    record { first = first.0; last = λ is. absurd (never_last (is_last s.assigned) more.0 is); rest = more.1 }
+
+pub segments_unique : (ss ts : List Segment) → are_segments ss ≡ true → are_segments ts ≡ true
+    → print_segments ss ≡ print_segments ts → ss ≡ ts
+segments_unique [] [] are_ss are_ts same = refl
+segments_unique [] (t ∷ ts) are_ss are_ts same = absurd (cc)
+segments_unique (s ∷ ss) [] are_ss are_ts same = absurd (cc)
+segments_unique (s ∷ ss) (t ∷ ts) are_ss are_ts same =
+    let of_s = first_of s ss are_ss in
+    let of_t = first_of t ts are_ts in
+    let firsts = segment_unique s t (print_segments ss) (print_segments ts) of_s.first of_t.first of_s.last of_t.last
+    (segments_begin ss) (segments_begin ts) same in
+    let rests = segments_unique ss ts of_s.rest of_t.rest firsts.1 in
+    let same_first : s ≡ t = firsts.0 in
+    cc
+
+-- a byte other than `/`
+abbrev pub is_no_slash : ℕ → Bool
+is_no_slash b = not (nat_eq b 47)
+
+-- one class holds another
+pub class_within : (p q : ℕ → Bool) (text : List ℕ) → ((b : ℕ) → p b ≡ true → q b ≡ true)
+    → list_all p text ≡ true → list_all q text ≡ true
+class_within p q [] each are = refl
+class_within p q (b ∷ text) each are =
+    let parts = and_parts (p b) (list_all p text) are in
+    and_from (q b) (list_all q text) (each b parts.0) (class_within p q text each parts.1)
+
+-- a byte of a class is no byte outside of it
+pub class_without : (p : ℕ → Bool) (b n : ℕ) → p n ≡ false → p b ≡ true → nat_eq b n ≡ false
+class_without p b n outside inside =
+    elim (eqb_tells b n) [
+      | inl same ↦ absurd (let lie : true ≡ false = sym inside ∙ ap p same.1 ∙ outside in cc)
+      | inr other ↦ other.0
+    ]
+
+pub class_without' : (p : ℕ → Bool) (b n : ℕ) → p n ≡ false → p b ≡ true → nat_eq n b ≡ false
+class_without' p b n outside inside =
+    elim (eqb_tells n b) [
+      | inl same ↦ absurd (let lie : true ≡ false = sym inside ∙ ap p (sym same.1) ∙ outside in cc)
+      | inr other ↦ other.0
+    ]
+
+pub token_no_slash : (b : ℕ) → is_token_byte b ≡ true → is_no_slash b ≡ true
+token_no_slash b token = ap not (class_without is_token_byte b 47 refl token)
+
+pub token_no_semicolon : (b : ℕ) → is_token_byte b ≡ true → is_no_semicolon b ≡ true
+token_no_semicolon b token = ap not (class_without is_token_byte b 59 refl token)
+
+pub space_no_semicolon : (b : ℕ) → is_http_whitespace b ≡ true → is_no_semicolon b ≡ true
+space_no_semicolon b space = ap not (class_without is_http_whitespace b 59 refl space)
+
+pub token_no_space : (b : ℕ) → is_token_byte b ≡ true → is_http_whitespace b ≡ false
+token_no_space b token =
+    let tab = class_without' is_token_byte b 9 refl token in
+    let line_feed = class_without' is_token_byte b 10 refl token in
+    let carriage_return = class_without' is_token_byte b 13 refl token in
+    let space = class_without' is_token_byte b 32 refl token in
+    rw (tab, line_feed, carriage_return, space) refl
+
+pub space_no_token : (b : ℕ) → is_http_whitespace b ≡ true → not (is_token_byte b) ≡ true
+space_no_token b space =
+    elim (is_token_byte b) as (λ v. is_token_byte b ≡ v → not v ≡ true) [
+      | true ↦ λ token. absurd (let lie : true ≡ false = sym space ∙ token_no_space b token in cc)
+      | false ↦ λ other. refl
+    ] refl
+
+-- the bytes of a token
+pub token_bytes : (text : List ℕ) → is_token text ≡ true → list_all is_token_byte text ≡ true
+token_bytes text token = (and_parts (not (is_empty text)) (list_all is_token_byte text) token).1
+
+-- what stands behind the subtype is no token byte
+pub space_begins : (space : List ℕ) (ss : List Segment) → list_all is_http_whitespace space ≡ true
+    → begins_outside is_token_byte (space ++ print_segments ss) ≡ true
+space_begins [] [] are = refl
+space_begins [] (s ∷ ss) are = refl
+space_begins (b ∷ space) ss are =
+    space_no_token b (and_parts (is_http_whitespace b) (list_all is_http_whitespace space) are).0
+
+pub segments_outside : (ss : List Segment) → begins_outside is_http_whitespace (print_segments ss) ≡ true
+segments_outside [] = refl
+segments_outside (s ∷ ss) = refl
+
+pub cut_unique : (text : List ℕ) (c d : Cut) → IsCut text c → IsCut text d → c ≡ d
+cut_unique text c d of_c of_d =
+    let mains = span_unique is_no_slash c.main d.main _ _
+    (class_within is_token_byte is_no_slash c.main token_no_slash (token_bytes c.main of_c.main))
+    (class_within is_token_byte is_no_slash d.main token_no_slash (token_bytes d.main of_d.main))
+    refl refl (sym of_c.whole ∙ of_d.whole) in
+    let behind : c.sub ++ (c.space ++ print_segments c.segments) ≡ d.sub ++ (d.space ++ print_segments d.segments) = cc in
+    let subs = span_unique is_token_byte c.sub d.sub _ _ (token_bytes c.sub of_c.sub) (token_bytes d.sub of_d.sub)
+    (space_begins c.space c.segments of_c.space) (space_begins d.space d.segments of_d.space) behind in
+    let spaces = span_unique is_http_whitespace c.space d.space _ _ of_c.space of_d.space
+    (segments_outside c.segments) (segments_outside d.segments) subs.1 in
+    let segments = segments_unique c.segments d.segments of_c.segments of_d.segments spaces.1 in
+    λ i. record { main = mains.0 i; sub = subs.0 i; space = spaces.0 i; segments = segments i }
+
+pub one_record : HasOneRecord
+one_record text m n of_m of_n = of_m.2 ∙ ap mime_of (cut_unique text of_m.0 of_n.0 of_m.1 of_n.1) ∙ sym of_n.2

@@ -1,0 +1,201 @@
+-- MIME types as texts write them (WHATWG MIME Sniffing 4.4). The text of a MIME type is cut into
+-- its parts; each part is a tree with a printer to its bytes, and a test that says which trees are
+-- valid. The record is what the cut stands for.
+use Rattle.std.specs.Prelude.{◌≡◌, ℕ, Bool, true, false, ◌&&◌, ◌||◌, ◌==◌, not, if◌then◌else◌, List, [], ◌∷◌, ◌++◌, map, filter, Option, Some, None, bytes_eq}
+use Rattle.std.specs.List.{list_all, flat_map, filter_map}
+use Rattle.std.specs.Str.{str_to_ascii_lowercase}
+use Rattle.orb_bytes.specs.Bytes.{AllPass, is_http_whitespace, is_token_byte, is_quoted_token_byte}
+use Rattle.orb_bytes.specs.Trim.{trimmed, without_trailing}
+use Rattle.mime_types.specs.Spans.{begins_outside}
+
+-- a MIME type record: type, subtype, and the parameters in their order (WHATWG MIME Sniffing 4.1)
+pub record Mime : Type 0 where
+  pub main : List ℕ
+  pub sub : List ℕ
+  pub parameters : List (List ℕ × List ℕ)
+
+abbrev pub is_empty : {X : Type 0} → List X → Bool
+is_empty [] = true
+is_empty (x ∷ xs) = false
+
+-- solely HTTP token code points, and at least one
+abbrev pub is_token : List ℕ → Bool
+is_token text = not (is_empty text) && list_all is_token_byte text
+
+-- a unit of a quoted string: a byte that stands for itself, or a byte behind a `\`
+-- (WHATWG Fetch 2.2, collecting an HTTP quoted string)
+pub data QuotedUnit : Type 0 where
+  itself escaped : (byte : ℕ) → QuotedUnit
+
+abbrev pub print_unit : QuotedUnit → List ℕ
+print_unit (itself byte) = byte ∷ []
+print_unit (escaped byte) = 92 ∷ (byte ∷ [])
+
+-- neither `"` nor `\` stands for itself
+abbrev pub is_unit : QuotedUnit → Bool
+is_unit (itself byte) = not (byte == 34 || byte == 92)
+is_unit (escaped byte) = true
+
+-- the byte that the unit stands for
+abbrev pub unit_value : QuotedUnit → ℕ
+unit_value (itself byte) = byte
+unit_value (escaped byte) = byte
+
+-- what closes a quoted string: a `"`, the end of the text, or a `\` that is the text's last byte
+pub data Close : Type 0 where
+  by_quote by_end by_backslash : Close
+
+abbrev pub print_close : Close → List ℕ
+print_close by_quote = 34 ∷ []
+print_close by_end = []
+print_close by_backslash = 92 ∷ []
+
+-- a `\` at the end of the text stands for itself
+abbrev pub close_value : Close → List ℕ
+close_value by_quote = []
+close_value by_end = []
+close_value by_backslash = 92 ∷ []
+
+-- the string goes to the end of the text
+abbrev pub is_at_end : Close → Bool
+is_at_end by_quote = false
+is_at_end by_end = true
+is_at_end by_backslash = true
+
+abbrev pub quoted_value : List QuotedUnit → Close → List ℕ
+quoted_value units close = map unit_value units ++ close_value close
+
+-- what a segment has behind its name: nothing; `=`, a quoted string and bytes that are ignored; or
+-- `=` and a value without quotes
+pub data Assigned : Type 0 where
+  nothing : Assigned
+  quoted : (units : List QuotedUnit) (close : Close) (ignored : List ℕ) → Assigned
+  plain : (value : List ℕ) → Assigned
+
+abbrev pub print_assigned : Assigned → List ℕ
+print_assigned nothing = []
+print_assigned (quoted units close ignored) =
+    61 ∷ (34 ∷ (flat_map print_unit units ++ (print_close close ++ ignored)))
+print_assigned (plain value) = 61 ∷ value
+
+-- a byte other than `;`
+abbrev pub is_no_semicolon : ℕ → Bool
+is_no_semicolon b = not (b == 59)
+
+-- what is ignored, and a plain value, end at the next `;`. A plain value doesn't begin with `"`, and
+-- behind a string that goes to the end of the text nothing is ignored.
+abbrev pub is_assigned : Assigned → Bool
+is_assigned nothing = true
+is_assigned (quoted units close ignored) =
+    list_all is_unit units
+    && (if is_at_end close then is_empty ignored else list_all is_no_semicolon ignored)
+is_assigned (plain value) = begins_outside (λ b. b == 34) value && list_all is_no_semicolon value
+
+-- it goes to the end of the text
+abbrev pub is_last : Assigned → Bool
+is_last nothing = false
+is_last (quoted units close ignored) = is_at_end close
+is_last (plain value) = false
+
+-- a segment of what stands behind the essence: `;`, HTTP whitespace, a name, and what it is assigned
+pub record Segment : Type 0 where
+  pub space : List ℕ
+  pub name : List ℕ
+  pub assigned : Assigned
+
+abbrev pub print_segment : Segment → List ℕ
+print_segment s = 59 ∷ (s.space ++ (s.name ++ print_assigned s.assigned))
+
+-- a byte of a name: any but `;` and `=`
+abbrev pub is_name_byte : ℕ → Bool
+is_name_byte b = not (b == 59 || b == 61)
+
+-- each part is of its class, and a name begins with no HTTP whitespace
+abbrev pub is_segment : Segment → Bool
+is_segment s =
+    list_all is_http_whitespace s.space
+    && (begins_outside is_http_whitespace s.name && (list_all is_name_byte s.name && is_assigned s.assigned))
+
+abbrev pub print_segments : List Segment → List ℕ
+print_segments segments = flat_map print_segment segments
+
+-- each segment is valid, and none follows one that goes to the end of the text
+abbrev pub are_segments : List Segment → Bool
+are_segments [] = true
+are_segments (s ∷ segments) =
+    is_segment s && ((not (is_last s.assigned) || is_empty segments) && are_segments segments)
+
+-- a text as its parts: type, `/`, subtype, HTTP whitespace, and segments
+pub record Cut : Type 0 where
+  pub main : List ℕ
+  pub sub : List ℕ
+  pub space : List ℕ
+  pub segments : List Segment
+
+-- the parts are valid, and the text without HTTP whitespace at its ends is these parts
+pub record IsCut (text : List ℕ) (cut : Cut) : Type 0 where
+  pub whole : trimmed is_http_whitespace text
+      ≡ cut.main ++ (47 ∷ (cut.sub ++ (cut.space ++ print_segments cut.segments)))
+  pub main : is_token cut.main ≡ true
+  pub sub : is_token cut.sub ≡ true
+  pub space : AllPass is_http_whitespace cut.space
+  pub segments : are_segments cut.segments ≡ true
+
+-- a name and its value, unless the value is empty
+abbrev pub unless_empty : List ℕ → List ℕ → Option (List ℕ × List ℕ)
+unless_empty name value = if is_empty value then None else Some (name, value)
+
+-- the name and what it is assigned. A plain value loses HTTP whitespace at its end, and is none where
+-- nothing is left.
+abbrev pub assigned_pair : List ℕ → Assigned → Option (List ℕ × List ℕ)
+assigned_pair name nothing = None
+assigned_pair name (quoted units close ignored) = Some (name, quoted_value units close)
+assigned_pair name (plain value) = unless_empty name (without_trailing is_http_whitespace value)
+
+-- the pair that a segment stands for, if any: its name in small letters
+abbrev pub pair_of : Segment → Option (List ℕ × List ℕ)
+pair_of s = assigned_pair (str_to_ascii_lowercase s.name) s.assigned
+
+-- the name is a token, and the value solely HTTP quoted-string token code points
+abbrev pub is_parameter : List ℕ × List ℕ → Bool
+is_parameter pair = is_token pair.0 && list_all is_quoted_token_byte pair.1
+
+-- of the pairs of one name the first
+abbrev pub first_of_each : List (List ℕ × List ℕ) → List (List ℕ × List ℕ)
+first_of_each [] = []
+first_of_each (pair ∷ pairs) =
+    pair ∷ filter (λ other. not (bytes_eq other.0 pair.0)) (first_of_each pairs)
+
+-- the parameters that the segments stand for
+abbrev pub parameters_of : List Segment → List (List ℕ × List ℕ)
+parameters_of segments = first_of_each (filter is_parameter (filter_map pair_of segments))
+
+-- the record that a cut stands for: type and subtype in small letters, and the parameters
+abbrev pub mime_of : Cut → Mime
+mime_of cut = record {
+  main = str_to_ascii_lowercase cut.main;
+  sub = str_to_ascii_lowercase cut.sub;
+  parameters = parameters_of cut.segments;
+}
+
+-- the text has this record
+abbrev pub IsMime : List ℕ → Mime → Type 0
+IsMime text mime = (cut : Cut) × IsCut text cut × (mime ≡ mime_of cut)
+
+-- the text has none
+abbrev pub HasNoMime : List ℕ → Type 0
+HasNoMime text = (mime : Mime) → ¬ (IsMime text mime)
+
+-- the text has a record, with this type and subtype but for the case of their letters
+abbrev pub IsEssence : List ℕ → List ℕ → List ℕ → Type 0
+IsEssence text main sub =
+    (mime : Mime) × IsMime text mime
+    × (mime.main ≡ str_to_ascii_lowercase main) × (mime.sub ≡ str_to_ascii_lowercase sub)
+
+-- the text writes its type and subtype so
+abbrev pub WritesEssence : List ℕ → List ℕ → List ℕ → Type 0
+WritesEssence text main sub = (cut : Cut) × IsCut text cut × (cut.main ≡ main) × (cut.sub ≡ sub)
+
+-- a text has one record at most
+abbrev pub HasOneRecord : Type 0
+HasOneRecord = (text : List ℕ) (m n : Mime) → IsMime text m → IsMime text n → m ≡ n

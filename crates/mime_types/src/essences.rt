@@ -1,0 +1,141 @@
+//! The type and subtype of a text, without its parameters (WHATWG MIME Sniffing 4.4).
+//!
+//! Whether a text is the text of a MIME type hangs on these two alone: every tail behind them is some
+//! list of segments. So they are found with no walk over the parameters and no memory.
+ghost use Rattle.std.specs.Prelude.{◌≡◌, ◌==◌, not, ◌∷◌, ◌++◌, IfSome, IfNone};
+ghost use Rattle.std.specs.List.{list_all};
+ghost use Rattle.mime_types.specs.Mime.{IsEssence, WritesEssence, HasNoMime, HasOneRecord};
+ghost use Rattle.mime_types.specs.Mime.{is_token as is_token_text};
+ghost use Rattle.mime_types.specs.Spans.{Spans};
+ghost use Rattle.orb_bytes.specs.Bytes.{AllPass, is_http_whitespace, is_token_byte};
+ghost use Rattle.orb_bytes.specs.Trim.{without_trailing};
+
+use memchr::memchr;
+use orb_bytes::{is_http_ws, is_token, trim_http_ws};
+
+/// The type and subtype of a text, as the text writes them: their letters have either case.
+#[derive(Clone, Copy, Debug, PartialEq, Eq)]
+pub struct Essence<'a> {
+    /// What stands before the `/`.
+    pub main: &'a [u8],
+    /// What stands behind the `/`, up to the parameters.
+    pub sub: &'a [u8],
+}
+
+/// The type and subtype that the text writes; `None` exactly where it is the text of no MIME type
+/// (WHATWG MIME Sniffing 4.4).
+pub fn essence_of(text: &[u8]) -> Option<Essence<'_>>
+    ensures found { IfSome result (λ e. IsEssence text.now e.main.now e.sub.now) }
+    ensures written { IfSome result (λ e. WritesEssence text.now e.main.now e.sub.now) }
+    ensures none { IfNone result (HasNoMime text.now) }
+{
+    let (main, behind) = split_once(b'/', trim_http_ws(text))?;
+    let (field, _) = split_before(b';', behind);
+    let sub = trim_http_ws_end(field);
+    if is_nonempty_token(main) && is_nonempty_token(sub) {
+        Some(Essence { main, sub })
+    } else {
+        None
+    }
+}
+
+/// The law that a text has one record at most, so that what is found of a text is all there is.
+pub fn one_record()
+    ensures { HasOneRecord }
+{}
+
+/// The text before the first such byte, and behind it; `None` exactly where there is none.
+fn split_once(stop: u8, text: &[u8]) -> Option<(&[u8], &[u8])>
+    ensures cut { IfSome result (λ x. text.now ≡ x.0.now ++ (stop ∷ x.1.now)) }
+    ensures first { IfSome result (λ x. AllPass (λ b. not (b == stop)) x.0.now) }
+    ensures none { IfNone result (AllPass (λ b. not (b == stop)) text.now) }
+{
+    let place = memchr(stop, text)?;
+    Some((&text[..place], &text[place + 1..]))
+}
+
+/// The text up to the first such byte, and from it on.
+fn split_before(stop: u8, text: &[u8]) -> (&[u8], &[u8])
+    ensures { Spans (λ b. not (b == stop)) text.now result.0.now result.1.now }
+{
+    let place = memchr(stop, text).unwrap_or(text.len());
+    text.split_at(place)
+}
+
+/// The text without HTTP whitespace at its end.
+fn trim_http_ws_end(text: &[u8]) -> &[u8]
+    ensures { result.now ≡ without_trailing is_http_whitespace text.now }
+{
+    let mut rest = text;
+    'trailing: while let [others @ .., last] = rest
+        && is_http_ws(*last)
+    {
+        rest = others;
+    }
+    rest
+}
+
+/// Whether the text is an HTTP token code point or more of them.
+fn is_nonempty_token(text: &[u8]) -> bool
+    ensures { result ≡ is_token_text text.now }
+{
+    !text.is_empty() && are_token_bytes(text)
+}
+
+/// Whether each byte is an HTTP token code point.
+fn are_token_bytes(text: &[u8]) -> bool
+    ensures { result ≡ list_all is_token_byte text.now }
+{
+    text.iter().all(|b| is_token(*b))
+}
+
+#[cfg(test)]
+mod tests {
+    use super::*;
+    use std::test::Fail;
+
+    #[test]
+    fn finds_the_essence(rt: HostRuntime) -> Result<(), Fail> {
+        let texts: [(&str, &str, &str); 9] = [
+            ("text/html", "text", "html"),
+            ("\t text/plain;a=\"\\\"\";a=2;b=\r\n", "text", "plain"),
+            ("TEXT/HTML;Charset=\"utf-8\" ;x=1 2", "TEXT", "HTML"),
+            ("text/html;x=\"a,b, c\"", "text", "html"),
+            ("a/b;c=\"d\\", "a", "b"),
+            ("image/svg+xml ; = ;;", "image", "svg+xml"),
+            ("text/javascript \t;", "text", "javascript"),
+            ("*/*", "*", "*"),
+            ("a/b;c/d", "a", "b"),
+        ];
+        for (text, main, sub) in texts {
+            let found = essence_of(text.as_bytes()).ok_or("a MIME type")?;
+            assert_eq!(rt; found.main, main.as_bytes(), "in {text}");
+            assert_eq!(rt; found.sub, sub.as_bytes(), "in {text}");
+        }
+        Ok(())
+    }
+
+    #[test]
+    fn finds_none(rt: HostRuntime) {
+        let texts = [
+            "",
+            "text",
+            "/",
+            "text/",
+            "/html",
+            "text/ html",
+            "text /html",
+            "te xt/html",
+            "text/h tml",
+            "a/b/c",
+            "text/;html",
+            ";text/html",
+            "text;a/b",
+            "text/html,text/css",
+            "(a)/b",
+        ];
+        for text in texts {
+            assert!(rt; essence_of(text.as_bytes()).is_none(), "in {text}");
+        }
+    }
+}
