@@ -40,25 +40,28 @@ response_once : ((head : List ℕ) → HasOneResponse head)
 unfolding IsResponseAt
 response_once one head rest place ended a b x y first second =
     elim first [
-      inl bad ↦ elim second [
-        inl other ↦ stated_same a b x y _ _ bad.1 other.1
-      | inr good ↦ absurd (bad.0 good.0 good.1) ]
-    | inr good ↦ elim second [
-        inl bad ↦ absurd (bad.0 good.0 good.1)
-      | inr other ↦
-          let same : other.0 ≡ good.0 = one head other.0 good.0 other.1 good.1 in
-          let Gives : ResponseHead → Type 0 = λ h. MatchOption (plain_response h) (Refuses b y (NotBuilt place)) (IsTyped head rest place ended b y) in
-          by_option (plain_response good.0) _ _ _ _ _
+      | inl bad ↦ elim second [
+        | inl other ↦ stated_same a b x y _ _ bad.1 other.1
+        | inr good ↦ absurd (bad.0 good.0 good.1)
+      ]
+      | inr good ↦ elim second [
+        | inl bad ↦ absurd (bad.0 good.0 good.1)
+        | inr other ↦
+            let same : other.0 ≡ good.0 = one head other.0 good.0 other.1 good.1 in
+            let Gives : ResponseHead → Type 0 = λ h. MatchOption (plain_response h) (Refuses b y (NotBuilt place)) (IsTyped head rest place ended b y) in
+            by_option (plain_response good.0) _ _ _ _ _
             (λ p q. stated_same a b x y _ _ p q)
             (λ typed p q. typed_once head rest place ended a b x y typed p q)
-            good.2 (subst Gives same other.2) ] ]
+            good.2 (subst Gives same other.2)
+      ]
+    ]
 
 head_once : (bytes : List ℕ) (place : ℕ) (ended : Bool) (a b : List ℕ) (x y : End) (P Q : ℕ → Type 0)
     → ((n : ℕ) → P n → Q n → Same a b x y)
     → IsHeadAt bytes place ended a x P → IsHeadAt bytes place ended b y Q → Same a b x y
 head_once bytes place ended a b x y P Q behind first second =
     by_option (head_length (head_window bytes)) _ _ _ _ _
-      (λ p q. stated_same a b x y _ _ p q) behind first second
+    (λ p q. stated_same a b x y _ _ p q) behind first second
 
 request_once : ((head : List ℕ) → HasOneRequest head) → ((head : List ℕ) → HasOneResponse head)
     → (head rest : List ℕ) (ended : Bool) (a b : List ℕ) (x y : End)
@@ -66,19 +69,22 @@ request_once : ((head : List ℕ) → HasOneRequest head) → ((head : List ℕ)
 unfolding IsRequestAt
 request_once one_request one_response head rest ended a b x y first second =
     elim first [
-      inl bad ↦ elim second [
-        inl other ↦ stated_same a b x y _ _ bad.1 other.1
-      | inr good ↦ absurd (bad.0 good.0 good.1) ]
-    | inr good ↦ elim second [
-        inl bad ↦ absurd (bad.0 good.0 good.1)
-      | inr other ↦
-          let same : other.0 ≡ good.0 = one_request head other.0 good.0 other.1 good.1 in
-          let Gives : RequestHead → Type 0 = λ h. MatchBool (is_plain_request h) (IsBehindRequest rest (length head) ended b y) (Refuses b y (NotBuilt 0)) in
-          by_test (is_plain_request good.0) _ _ _ _ _
+      | inl bad ↦ elim second [
+        | inl other ↦ stated_same a b x y _ _ bad.1 other.1
+        | inr good ↦ absurd (bad.0 good.0 good.1)
+      ]
+      | inr good ↦ elim second [
+        | inl bad ↦ absurd (bad.0 good.0 good.1)
+        | inr other ↦
+            let same : other.0 ≡ good.0 = one_request head other.0 good.0 other.1 good.1 in
+            let Gives : RequestHead → Type 0 = λ h. MatchBool (is_plain_request h) (IsBehindRequest rest (length head) ended b y) (Refuses b y (NotBuilt 0)) in
+            by_test (is_plain_request good.0) _ _ _ _ _
             (λ p q. head_once rest (length head) ended a b x y _ _
-              (λ n r s. response_once one_response (take n rest) (drop n rest) (length head) ended a b x y r s) p q)
+            (λ n r s. response_once one_response (take n rest) (drop n rest) (length head) ended a b x y r s) p q)
             (λ p q. stated_same a b x y _ _ p q)
-            good.2 (subst Gives same other.2) ] ]
+            good.2 (subst Gives same other.2)
+      ]
+    ]
 
 pub recording_once : ((head : List ℕ) → HasOneRequest head) → ((head : List ℕ) → HasOneResponse head)
     → (bytes : List ℕ) (ended : Bool) (a b : List ℕ) (x y : End)
@@ -86,10 +92,10 @@ pub recording_once : ((head : List ℕ) → HasOneRequest head) → ((head : Lis
 unfolding IsRecording
 recording_once one_request one_response bytes ended a b x y first second =
     by_test (nat_lt recording_limit (length bytes)) _ _ _ _ _
-      (λ p q. stated_same a b x y _ _ p q)
-      (λ p q. by_test (length bytes == 0) _ _ _ _ _
-        (λ r s. stated_same a b x y _ _ r s)
-        (λ r s. head_once bytes 0 ended a b x y _ _
-          (λ n t u. request_once one_request one_response (take n bytes) (drop n bytes) ended a b x y t u) r s)
-        p q)
-      first second
+    (λ p q. stated_same a b x y _ _ p q)
+    (λ p q. by_test (length bytes == 0) _ _ _ _ _
+    (λ r s. stated_same a b x y _ _ r s)
+    (λ r s. head_once bytes 0 ended a b x y _ _
+    (λ n t u. request_once one_request one_response (take n bytes) (drop n bytes) ended a b x y t u) r s)
+    p q)
+    first second

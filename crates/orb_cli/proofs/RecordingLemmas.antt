@@ -21,5 +21,5 @@ pub IsResponseAt-unsafe : (head rest : List ℕ) (place : ℕ) (ended : Bool) (o
 unfolding IsResponseAt
 IsResponseAt-unsafe head rest place ended out stop h value size is plain unsafe refuses =
     let Gives : Option (List ℕ × ℕ) → Type 0 =
-      λ typed. MatchOption typed (Refuses out stop (NotBuilt place)) (IsTyped head rest place ended out stop) in
+    λ typed. MatchOption typed (Refuses out stop (NotBuilt place)) (IsTyped head rest place ended out stop) in
     inr (h, is, subst Gives (sym plain) (inr (unsafe, refuses)))

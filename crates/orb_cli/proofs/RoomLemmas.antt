@@ -19,5 +19,9 @@ take-put_mid-more filled k n room piece within fits =
 pub length-put_mid-ge : (filled k n : ℕ) (room piece : List ℕ) → filled ≤ length room → n ≤ length piece
     → filled + n ≤ length (put_mid filled k room piece)
 length-put_mid-ge filled k n room piece within fits =
-    omega (arith, length-take-le filled room within,
-      length-append (take filled room) (piece ++ post_of filled k room), length-append piece (post_of filled k room))
+    omega (
+      arith,
+      length-take-le filled room within,
+      length-append (take filled room) (piece ++ post_of filled k room),
+      length-append piece (post_of filled k room),
+    )

@@ -67,7 +67,7 @@ unfoldable pub IsResponseAt : (head rest : List ℕ) (place : ℕ) (ended : Bool
 IsResponseAt head rest place ended out stop =
     (((h : ResponseHead) → ¬ (IsResponse head h)) × Refuses out stop (Bad BadHead place))
     ⊎ ((h : ResponseHead) × IsResponse head h
-        × MatchOption (plain_response h) (Refuses out stop (NotBuilt place)) (IsTyped head rest place ended out stop))
+    × MatchOption (plain_response h) (Refuses out stop (NotBuilt place)) (IsTyped head rest place ended out stop))
 
 -- where a recording ends whose head at this place has no end in the window
 abbrev pub missing_end : (have place : ℕ) (ended : Bool) → End
@@ -78,29 +78,29 @@ missing_end have place ended =
 abbrev pub IsHeadAt : (bytes : List ℕ) (place : ℕ) (ended : Bool) (out : List ℕ) (stop : End) → (ℕ → Type 0) → Type 0
 IsHeadAt bytes place ended out stop Behind =
     MatchOption (head_length (head_window bytes))
-      (Refuses out stop (missing_end (length bytes) place ended))
-      Behind
+    (Refuses out stop (missing_end (length bytes) place ended))
+    Behind
 
 -- behind the request, the response
 abbrev pub IsBehindRequest : (bytes : List ℕ) (place : ℕ) (ended : Bool) (out : List ℕ) (stop : End) → Type 0
 IsBehindRequest bytes place ended out stop =
     IsHeadAt bytes place ended out stop
-      (λ n. IsResponseAt (take n bytes) (drop n bytes) place ended out stop)
+    (λ n. IsResponseAt (take n bytes) (drop n bytes) place ended out stop)
 
 -- the bytes are a request head and the rest
 unfoldable pub IsRequestAt : (head rest : List ℕ) (ended : Bool) (out : List ℕ) (stop : End) → Type 0
 IsRequestAt head rest ended out stop =
     (((h : RequestHead) → ¬ (IsRequest head h)) × Refuses out stop (Bad BadHead 0))
     ⊎ ((h : RequestHead) × IsRequest head h
-        × MatchBool (is_plain_request h)
-            (IsBehindRequest rest (length head) ended out stop)
-            (Refuses out stop (NotBuilt 0)))
+    × MatchBool (is_plain_request h)
+    (IsBehindRequest rest (length head) ended out stop)
+    (Refuses out stop (NotBuilt 0)))
 
 -- what `filter` writes of a recording, and where it ends
 unfoldable pub IsRecording : (bytes : List ℕ) (ended : Bool) (out : List ℕ) (stop : End) → Type 0
 IsRecording bytes ended out stop =
     MatchBool (nat_lt recording_limit (length bytes))
-      (Refuses out stop (NotBuilt 0))
-      (MatchBool (length bytes == 0)
-        (Refuses out stop (if_ended ended Done))
-        (IsHeadAt bytes 0 ended out stop (λ n. IsRequestAt (take n bytes) (drop n bytes) ended out stop)))
+    (Refuses out stop (NotBuilt 0))
+    (MatchBool (length bytes == 0)
+    (Refuses out stop (if_ended ended Done))
+    (IsHeadAt bytes 0 ended out stop (λ n. IsRequestAt (take n bytes) (drop n bytes) ended out stop)))

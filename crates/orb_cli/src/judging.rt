@@ -2,15 +2,20 @@
 ghost use Rattle.std.specs.Prelude.{◌≡◌, ◌+◌, ◌^◌, ◌<◌, ◌≤◌, [], true, length, take, drop};
 ghost use Rattle.orb_cli.specs.Answer.{AtEnd};
 ghost use Rattle.orb_cli.specs.Recording.{
-    IsRecording, IsRequestAt, IsBehindRequest, IsResponseAt, GivesBody, head_window, missing_end,
-};
-
-use http_exchange::{
-    BadKind, FirstRequest, FirstResponse, first_request, first_response, head_end,
+  IsRecording,
+  IsRequestAt,
+  IsBehindRequest,
+  IsResponseAt,
+  GivesBody,
+  head_window,
+  missing_end,
 };
 
 use crate::outcome::Outcome;
 use crate::typing::is_safelisted_value;
+use http_exchange::{
+    BadKind, FirstRequest, FirstResponse, first_request, first_response, head_end,
+};
 
 /// The most bytes of a head.
 const HEAD_LIMIT: usize = 65_536;

@@ -11,11 +11,10 @@ mod judging;
 mod outcome;
 mod report;
 mod settled;
-mod top;
-mod typing;
-
 #[cfg(test)]
 mod tests;
+mod top;
+mod typing;
 
 pub use outcome::Outcome;
 pub use report::outcome_line;

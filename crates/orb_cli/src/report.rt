@@ -2,11 +2,10 @@
 ghost use Rattle.std.specs.Prelude.{◌≡◌, ◌≤◌, ◌+◌, ◌++◌, length};
 ghost use Rattle.orb_cli.specs.Report.{status_of, kind_name, line_of, line_text, line_text_at};
 
+use crate::outcome::Outcome;
 use arrayvec::ArrayVec;
 use http_exchange::BadKind;
 use orb_bytes::decimal;
-
-use crate::outcome::Outcome;
 
 impl Outcome {
     /// The program's status: 0 where all went well.

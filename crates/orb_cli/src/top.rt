@@ -6,12 +6,11 @@ ghost use Rattle.orb_cli.specs.Words.{Taken};
 ghost use Rattle.orb_cli.specs.Recording.{recording_limit};
 ghost use Rattle.orb_cli.specs.Answer.{Ran, HasCauses};
 
-use orb_io::{Failed, Sink, Source};
-use std::alloc::{AllocError, Global};
-
 use crate::filling::fill;
 use crate::judging::{RECORDING_LIMIT, judge};
 use crate::outcome::Outcome;
+use orb_io::{Failed, Sink, Source};
+use std::alloc::{AllocError, Global};
 
 /// Runs a command line over a source and a sink.
 ///

@@ -1,6 +1,5 @@
 use Rattle.std.proofs.Common.{◌≡◌, ◌≤◌, ◌+◌, ◌-◌, ◌++◌, length, take, subst, sym, ◌∙◌, arith}
 use Rattle.orb_io.specs.Told.{Loses}
-
 use Rattle.orb_cli.proofs.RoomLemmas.{take-put_mid-more, length-put_mid-ge}
 use Rattle.orb_io.proofs.ToldLemmas.{Loses-twice}
 use Rattle.orb_cli.proofs.filling.fill.Goals as goal
