@@ -2,12 +2,11 @@
 //! goes to standard error, and the program ends with its status.
 #![tactic(auto)]
 
+use orb_cli::{Outcome, outcome_line, run};
+use orb_io::{StdSink, StdSource};
 use std::env;
 use std::io::{self, ErrorKind, Write};
 use std::process::ExitCode;
-
-use orb_cli::{Outcome, outcome_line, run};
-use orb_io::{StdSink, StdSource};
 
 fn main(rt: HostRuntime) -> ExitCode {
     let outcome = match words(&rt) {
