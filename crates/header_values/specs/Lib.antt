@@ -1,3 +1,4 @@
 pub mod Fields
 pub mod Joined
 pub mod Lending
+pub mod Parts

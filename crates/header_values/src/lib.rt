@@ -1,8 +1,12 @@
 //! Field values: joined, cut into parts, and read for their MIME type.
 #![tactic(auto)]
 
+mod cut;
 mod fields;
 mod scratch;
+mod split;
 
+pub use cut::{one_cut, parts};
 pub use fields::{FieldSpan, Fields};
 pub use scratch::Scratch;
+pub use split::Parts;
