@@ -2,3 +2,4 @@ pub mod Fields
 pub mod Joined
 pub mod Lending
 pub mod Parts
+pub mod Questions

@@ -3,10 +3,12 @@
 
 mod cut;
 mod fields;
+mod questions;
 mod scratch;
 mod split;
 
 pub use cut::{one_cut, parts};
 pub use fields::{FieldSpan, Fields};
+pub use questions::{coded, nosniff};
 pub use scratch::Scratch;
 pub use split::Parts;
