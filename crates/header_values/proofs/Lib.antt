@@ -1,0 +1,4 @@
+pub mod FieldLemmas
+pub mod JoinLemmas
+pub mod PartLemmas
+pub mod QuestionLemmas

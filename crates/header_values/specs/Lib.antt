@@ -1,0 +1,5 @@
+pub mod Fields
+pub mod Joined
+pub mod Lending
+pub mod Parts
+pub mod Questions
