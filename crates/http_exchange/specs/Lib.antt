@@ -9,3 +9,7 @@ pub mod Places
 pub mod Pieces
 pub mod Sound
 pub mod Reads
+pub mod Spans
+pub mod RequestFields
+pub mod ResponseFields
+pub mod Reading

@@ -15,14 +15,20 @@ mod frames;
 mod pieces;
 mod places;
 mod refusals;
+mod request;
+mod response;
 mod settled;
+mod spans;
 mod unframing;
+mod values;
 
 pub use ends::head_end;
 pub use first::{FirstRequest, FirstResponse, first_request, first_response};
 pub use frames::BodyFrame;
 pub use pieces::Taken;
 pub use refusals::BadKind;
+pub use request::{RequestHead, read_request};
+pub use response::{ResponseHead, read_response};
 pub use settled::{
     fronts_of_bodies, head_length_stays, one_request, one_response, unframed_is_front,
 };
