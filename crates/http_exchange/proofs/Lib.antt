@@ -1,2 +1,8 @@
 pub mod EndLemmas
 pub mod FieldLemmas
+pub mod RunLemmas
+pub mod SpellLemmas
+pub mod Residuals
+pub mod ChunkedLemmas
+pub mod PieceLemmas
+pub mod UnframerLemmas
