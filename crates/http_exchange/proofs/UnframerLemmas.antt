@@ -1,14 +1,14 @@
 -- What an unframer answers, by its frame.
-use Rattle.std.proofs.Common.{◌≡◌, ℕ, ◌+◌, ◌-◌, ◌<◌, ◌≤◌, true, false, List, [], ◌∷◌, ◌++◌, length, take, drop, min, refl, sym, ap, subst, ◌∙◌, arith, append-nil, length-append, ⊎_elim, inl, inr}
-use Rattle.std.proofs.lemmas.Bool.{false≢true, cases_lt}
+use Rattle.std.proofs.Common.{◌≡◌, ℕ, suc, ◌+◌, ◌-◌, ◌<◌, ◌≤◌, true, false, List, [], ◌∷◌, ◌++◌, length, take, drop, min, refl, sym, ap, subst, ◌∙◌, arith, append-nil, length-append, ⊎_elim, inl, inr}
+use Rattle.std.proofs.lemmas.Bool.{cases_Bool, false≢true, cases_lt}
 use Rattle.std.proofs.lemmas.List.{length-take, length-take-le, take_all}
 use Rattle.std.proofs.Math.Nat.{eq-or-lt_of_le}
 use Rattle.std.proofs.Math.Seq.{take-add}
 use Rattle.http_exchange.specs.Chunked.{IsChunkedFront, IsChunkedWhole}
 use Rattle.http_exchange.specs.Frames.{IsFront, HasFront, IsWhole, IsBadAt}
 use Rattle.http_exchange.specs.Pieces.{Reads, Fails, TakesChunks}
-use Rattle.http_exchange.specs.Places.{is_dead, is_end, run, gives}
-use Rattle.http_exchange.specs.Reads.{StandsAt, HasRead, Gets, Refuses, Answers}
+use Rattle.http_exchange.specs.Places.{is_content, is_dead, is_end, step, run, gives}
+use Rattle.http_exchange.specs.Reads.{StandsAt, HasRead, IsTaken, Gets, Refuses, Answers}
 use Rattle.http_exchange.specs.declared.frames.BodyFrame.{BodyFrame}
 use Rattle.http_exchange.specs.declared.frames.BodyFrame.TheVariants as frame
 use Rattle.http_exchange.specs.declared.pieces.Taken.{Taken}
@@ -305,3 +305,22 @@ whole_read p frame.Chunked m given h =
 whole_read p frame.Empty m given h = absurd h
 whole_read p (frame.Length n) m given h = absurd h
 whole_read p frame.ToEnd m given h = absurd h
+
+-- ---- what holds whatever was read
+
+length_gives : (p : Place) (m : List ℕ) → length (gives p m) ≤ length m
+length_gives p [] = omega arith
+length_gives p (b ∷ m) =
+    let rest = length_gives (step p b) m in
+    ⊎_elim
+    (λ t. let l : length (gives p (b ∷ m)) ≡ suc (length (gives (step p b) m)) = rw t refl in omega (arith, l, rest))
+    (λ t. let l : length (gives p (b ∷ m)) ≡ length (gives (step p b) m) = rw t refl in omega (arith, l, rest))
+    (cases_Bool (is_content p))
+
+pub chunks_taken : (p q : Place) (t : Taken) (piece : List ℕ) → TakesChunks p q piece t → IsTaken t (Chunks q) piece
+chunks_taken p q (Got body used) piece h = (
+  h.within,
+  omega (arith, length_gives p (take used piece), ap length h.content, length-take-le used piece h.within),
+  λ none some. h.rests (sym h.content ∙ ap (λ n. gives p (take n piece)) none) (omega (arith, none, some)),
+)
+chunks_taken p q (Bad at) piece h = h.0.within

@@ -1,7 +1,7 @@
 -- What an unframer has read, and what its calls answer.
-use Rattle.std.specs.Prelude.{◌≡◌, ℕ, ◌+◌, ◌<◌, ◌≤◌, false, List, [], ◌++◌, length, take}
+use Rattle.std.specs.Prelude.{◌≡◌, ℕ, ◌+◌, ◌<◌, ◌≤◌, Bool, false, true, ◌==◌, List, [], ◌++◌, length, take}
 use Rattle.http_exchange.specs.Frames.{IsFront, IsWhole, IsBadAt}
-use Rattle.http_exchange.specs.Places.{is_dead, run, gives}
+use Rattle.http_exchange.specs.Places.{is_dead, is_end, run, gives}
 use Rattle.http_exchange.specs.declared.frames.BodyFrame.{BodyFrame}
 use Rattle.http_exchange.specs.declared.frames.BodyFrame.TheVariants as frame
 use Rattle.http_exchange.specs.declared.places.Place.TheVariants.{Size}
@@ -19,6 +19,19 @@ StandsAt (Chunks place) frame.Chunked m given =
     (place ≡ run (Size 0 0) m) × (given ≡ gives (Size 0 0) m) × (is_dead place ≡ false)
 StandsAt Rest frame.ToEnd m given = given ≡ m
 StandsAt _ _ m given = ⊥
+
+-- the body has ended by its own bytes
+abbrev pub is_ended : Unframer → Bool
+is_ended (Counted left) = left == 0
+is_ended (Chunks place) = is_end place
+is_ended Rest = false
+
+-- what was taken stands in the piece, and where nothing was, the piece or the body had ended
+abbrev pub IsTaken : Taken → Unframer → List ℕ → Type 0
+IsTaken (Got body used) u piece =
+    (used ≤ length piece) × (length body.now ≤ used)
+    × (used ≡ 0 → 1 ≤ length piece → is_ended u ≡ true)
+IsTaken (Bad at) u piece = at < length piece
 
 -- an unframer that was made for the frame has read the bytes m and given these
 pub record HasRead (u : Unframer) (f : BodyFrame) (m given : List ℕ) : Type 0 where

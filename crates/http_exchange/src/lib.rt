@@ -1,8 +1,9 @@
 //! The heads and bodies of HTTP/1.1 exchanges (RFC 9112) as they are sent.
 //!
 //! `specs/Head` says where a head ends, and `specs/Heads` which bytes are a head: the grammar is that
-//! of `httparse`, and the whole text has to be one head with at most 128 fields. `specs/First` has
-//! the one form of exchange that is built so far.
+//! of `httparse`, and the whole text has to be one head with at most 128 fields. What is read of one,
+//! [`read_request`] and [`read_response`], is said by its fields alone: `specs/RequestFields` and
+//! `specs/ResponseFields`. `specs/First` has the one form of exchange that the program takes so far.
 //!
 //! `specs/Frames` says which bytes are a body, and which of them are content; of chunked bodies
 //! `specs/Chunked` has the grammar. An [`Unframer`] reads a body in pieces, cut anywhere.
@@ -21,6 +22,9 @@ mod settled;
 mod spans;
 mod unframing;
 mod values;
+
+#[cfg(test)]
+mod tests;
 
 pub use ends::head_end;
 pub use first::{FirstRequest, FirstResponse, first_request, first_response};

@@ -2,7 +2,7 @@
 //!
 //! An [`Unframer`] reads a body in pieces, cut anywhere, and gives the content as slices of the
 //! pieces: nothing is copied, and one answer has a whole run of content.
-ghost use Rattle.std.specs.Prelude.{ℕ, List, [], ◌↔◌, IsTrue};
+ghost use Rattle.std.specs.Prelude.{◌≡◌, ℕ, List, [], ◌↔◌, IsTrue};
 
 use crate::frames::BodyFrame;
 use crate::pieces::{Taken, front_of, take_chunks};
@@ -40,7 +40,7 @@ impl Model for Unframer {
 
 impl Unframer {
     ghost use Rattle.http_exchange.specs.Frames.{IsWhole};
-    ghost use Rattle.http_exchange.specs.Reads.{HasRead, Answers};
+    ghost use Rattle.http_exchange.specs.Reads.{HasRead, Answers, IsTaken, is_ended};
 
     /// Before the first byte of a body of the frame.
     pub fn new(frame: BodyFrame) -> Unframer
@@ -56,10 +56,12 @@ impl Unframer {
     }
 
     /// Reads the front of a piece, up to and with its first run of content bytes, and not behind the
-    /// end of the body. `Bad` comes only of a chunked body, and exactly where a byte is refused
-    /// before a content byte; the unframer then has no further use.
+    /// end of the body: at least one byte, unless the piece is empty or the body has ended. `Bad`
+    /// comes only of a chunked body, and exactly where a byte is refused before a content byte; the
+    /// unframer then has no further use.
     pub fn feed<'p>(&mut self, piece: &'p [u8]) -> Taken<'p>
-        ensures { (f : BodyFrame) (m given : List ℕ) → HasRead self.old f m given → Answers result self.new f m given piece.now }
+        ensures taken { IsTaken result self.new piece.now }
+        ensures answers { (f : BodyFrame) (m given : List ℕ) → HasRead self.old f m given → Answers result self.new f m given piece.now }
     {
         match self.reading {
             Reading::Counted { left } => {
@@ -86,7 +88,8 @@ impl Unframer {
 
     /// Whether the body has ended by its own bytes; never so for one that runs to the end.
     pub fn is_whole(&self) -> bool
-        ensures { (f : BodyFrame) (m given : List ℕ) → HasRead self.now f m given → IsTrue result ↔ IsWhole f m }
+        ensures value { result ≡ is_ended self.now }
+        ensures whole { (f : BodyFrame) (m given : List ℕ) → HasRead self.now f m given → IsTrue result ↔ IsWhole f m }
     {
         match &self.reading {
             Reading::Counted { left } => *left == 0,
