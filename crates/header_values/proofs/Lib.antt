@@ -2,3 +2,4 @@ pub mod FieldLemmas
 pub mod JoinLemmas
 pub mod PartLemmas
 pub mod QuestionLemmas
+pub mod ExtractLemmas

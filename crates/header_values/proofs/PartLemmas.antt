@@ -1,18 +1,18 @@
 -- The parts of a value, by one walk over it.
-use Rattle.std.proofs.Common.{◌≡◌, ℕ, zero, suc, ◌+◌, ◌-◌, ◌≤◌, ◌<◌, Bool, true, false, not, ◌&&◌, ◌||◌, nat_eq, if◌then◌else◌, List, [], ◌∷◌, ◌++◌, length, take, drop, get_or, map, Option, Some, None, drop_of_length-le, refl, sym, ap, subst, ◌∙◌, append_assoc, append-nil, length-append, length-drop, inl, inr, arith}
+use Rattle.std.proofs.Common.{◌≡◌, ℕ, zero, suc, ◌+◌, ◌-◌, ◌≤◌, ◌<◌, Bool, true, false, not, ◌&&◌, ◌||◌, nat_eq, List, [], ◌∷◌, ◌++◌, length, take, drop, get_or, map, Option, Some, None, drop_of_length-le, refl, sym, ap, subst, ◌∙◌, append_assoc, append-nil, length-append, length-drop, inl, inr, arith}
 use Rattle.std.specs.List.{list_all, flat_map}
 use Rattle.std.proofs.lemmas.Bool.{and_parts, and_from, eqb-true}
 use Rattle.std.proofs.lemmas.Bool.Decides.{eqb_tells}
 use Rattle.orb_bytes.specs.Bytes.{is_tab_or_space}
 use Rattle.orb_bytes.specs.Trim.{trimmed}
-use Rattle.mime_types.specs.Mime.{is_empty, QuotedUnit, itself, escaped, print_unit, is_unit, Close, by_quote, by_end, by_backslash, print_close, is_at_end}
+use Rattle.mime_types.specs.Mime.{is_empty, QuotedUnit, itself, escaped, print_unit, is_unit, by_quote, by_end, by_backslash}
 use Rattle.std.proofs.Math.Seq.{drop-cons}
 use Rattle.std.proofs.lemmas.List.{take_more, take_all}
 use Rattle.mime_types.proofs.CutLemmas.{stops_units}
-use Rattle.mime_types.proofs.SegmentLemmas.{UnitsOf, units_of}
+use Rattle.mime_types.proofs.SegmentLemmas.{units_of}
 use Rattle.header_values.specs.declared.split.Place.{Place}
-use Rattle.header_values.specs.declared.split.Place.TheVariants.{Outside, Inside, Escaped}
-use Rattle.header_values.specs.Parts.{Piece, bare, string, print_piece, is_piece, is_last, print_part, is_part, is_closed, print_parts, are_parts, IsCut, part_text, IsParts, HasOneCut, after, is_cut, put_first, cut_from, cuts_left, parts_of, parts_left_of}
+use Rattle.header_values.specs.declared.split.Place.TheVariants.{Outside, Inside}
+use Rattle.header_values.specs.Parts.{Piece, bare, string, print_piece, is_piece, is_last, print_part, is_part, is_closed, print_parts, are_parts, IsCut, part_text, HasOneCut, after, is_cut, put_first, cut_from, cuts_left, parts_of, parts_left_of}
 
 put_first-twice : (a b : List ℕ) (texts : List (List ℕ)) → put_first a (put_first b texts) ≡ put_first (a ++ b) texts
 put_first-twice a b [] = refl

@@ -1,5 +1,5 @@
 -- What the parts of a value say of the fields that it is joined from.
-use Rattle.std.proofs.Common.{◌≡◌, ℕ, List, codes, Option, Some, sym, ap, ◌∙◌}
+use Rattle.std.proofs.Common.{◌≡◌, ℕ, List, codes, Some, sym, ap, ◌∙◌}
 use Rattle.std.specs.List.{list_any}
 use Rattle.orb_bytes.specs.Fields.{same_name}
 use Rattle.header_values.specs.Joined.{joined}

@@ -34,5 +34,5 @@ pub record AreFields (head : List ℕ) (spans : List FieldSpan) : Type 0 where
   pub fit : sum_by field_size (pairs_of head spans) ≤ length head
 
 -- the same, of the fields that a call is given
-abbrev pub AreGood : Fields → Type 0
-AreGood fields = AreFields fields.head.now fields.spans.now
+abbrev pub AreOfHead : Fields → Type 0
+AreOfHead fields = AreFields fields.head.now fields.spans.now

@@ -3,3 +3,5 @@ pub mod Joined
 pub mod Lending
 pub mod Parts
 pub mod Questions
+pub mod Extracted
+pub mod Essences

@@ -18,3 +18,33 @@ pub fn parts(value: &[u8]) -> Parts<'_>
 pub fn one_cut()
     ensures { (value : List ℕ) → HasOneCut value }
 {}
+
+#[cfg(test)]
+mod tests {
+    use super::*;
+
+    #[test]
+    fn commas_outside_of_strings_cut(rt: HostRuntime) {
+        let rows: [(&str, &[&str]); 12] = [
+            ("", &[""]),
+            (",", &["", ""]),
+            ("a,\"b,", &["a", "\"b,"]),
+            ("nosniff,", &["nosniff", ""]),
+            ("text/html;\", x/x", &["text/html;\", x/x"]),
+            ("x/x;test=\"hi\", y/y", &["x/x;test=\"hi\"", "y/y"]),
+            ("x/x;test=\"hi\",y/y", &["x/x;test=\"hi\"", "y/y"]),
+            ("x,,,1", &["x", "", "", "1"]),
+            ("\"1,2\", 3", &["\"1,2\"", "3"]),
+            (" \ta \t, b\t", &["a", "b"]),
+            ("\"a\\\",b\",c", &["\"a\\\",b\"", "c"]),
+            ("a\"b\\", &["a\"b\\"]),
+        ];
+        for (value, expected) in rows {
+            let mut rest = parts(value.as_bytes());
+            for part in expected {
+                assert!(rt; rest.next() == Some(part.as_bytes()), "{value}");
+            }
+            assert!(rt; rest.next().is_none(), "{value}");
+        }
+    }
+}

@@ -28,12 +28,12 @@ pub struct Fields<'a> {
 }
 
 impl Fields<'_> {
-    ghost use Rattle.header_values.specs.Fields.{AreGood, pairs_in};
+    ghost use Rattle.header_values.specs.Fields.{AreOfHead, pairs_in};
     ghost use Rattle.header_values.specs.Joined.{joined};
 
     /// Writes the joined values over the text; false exactly where there is none.
     pub(crate) fn write_joined(&self, name: &[u8], text: &mut Vec<u8>) -> bool
-        requires fields { AreGood self.now }
+        requires fields { AreOfHead self.now }
         requires room { length self.now.head.now ≤ vec_capacity text.old }
         ensures capacity { vec_capacity text.old ≤ vec_capacity text.new }
         ensures joined { (if result then Some text.new.items else None) ≡ joined (pairs_in self.now) name.now }

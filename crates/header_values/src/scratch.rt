@@ -31,7 +31,7 @@ impl Model for Scratch {
 impl Scratch {
     ghost use Rattle.std.specs.Option.{option_copied};
     ghost use Rattle.std.specs.Borrow.{sem};
-    ghost use Rattle.header_values.specs.Fields.{AreGood, pairs_in};
+    ghost use Rattle.header_values.specs.Fields.{AreOfHead, pairs_in};
     ghost use Rattle.header_values.specs.Joined.{joined};
     ghost use Rattle.header_values.specs.Lending.{KeepsRoom};
 
@@ -48,7 +48,7 @@ impl Scratch {
     /// The values of the fields of that name, with `, ` between them; names are compared without
     /// regard to case. `None` exactly where there is no such field. (RFC 9110 5.3, WHATWG Fetch 2.2)
     pub fn join(&mut self, fields: &Fields, name: &[u8]) -> Option<&[u8]>
-        requires fields { AreGood fields.now }
+        requires fields { AreOfHead fields.now }
         requires room { length fields.now.head.now ≤ self.old }
         ensures value { option_copied result ≡ joined (pairs_in fields.now) name.now }
         ensures* kept { sem 𝓛 (KeepsRoom self.entry) }
@@ -70,5 +70,42 @@ pub(crate) fn append(bytes: &mut Vec<u8>, text: &[u8])
     match bytes.extend_from_slice(text) {
         Ok(()) => {}
         Err(_) => unreachable!(),
+    }
+}
+
+#[cfg(test)]
+mod tests {
+    use super::*;
+    use crate::examples::Head;
+    use std::test::Fail;
+
+    #[test]
+    fn values_of_a_name_are_joined(rt: HostRuntime) -> Result<(), Fail> {
+        let head = Head::of(
+            rt.alloc(),
+            &[
+                ("A", "x"),
+                ("b", ""),
+                ("a", " y,"),
+                ("C", ""),
+                ("ab", "z"),
+                ("c", ""),
+            ],
+        )?;
+        let fields = head.fields()?;
+        let mut scratch = Scratch::open(rt.alloc(), fields.head.len())?;
+        let rows: [(&str, Option<&str>); 6] = [
+            ("a", Some("x,  y,")),
+            ("A", Some("x,  y,")),
+            ("B", Some("")),
+            ("c", Some(", ")),
+            ("", None),
+            ("abc", None),
+        ];
+        for (name, joined) in rows {
+            let found = scratch.join(&fields, name.as_bytes());
+            assert!(rt; found == joined.map(|text| text.as_bytes()), "{name}");
+        }
+        Ok(())
     }
 }

@@ -1,5 +1,5 @@
-use Rattle.std.proofs.Common.{◌≤◌, length, refl, sym, ap, subst, ◌∙◌, arith}
-use Rattle.header_values.proofs.JoinLemmas.{WrittenTo, WrittenTo-none, WrittenTo-hit, WrittenTo-miss, WrittenTo-all, room_for}
+use Rattle.std.proofs.Common.{refl, sym, ◌∙◌, arith}
+use Rattle.header_values.proofs.JoinLemmas.{WrittenTo-none, WrittenTo-hit, WrittenTo-miss, WrittenTo-all, room_for}
 use Rattle.header_values.proofs.fields.Fields.write_joined.Goals as goal
 use Rattle.header_values.proofs.fields.Fields.write_joined.Goals.{then-eq_ignore_case, else-eq_ignore_case}
 
