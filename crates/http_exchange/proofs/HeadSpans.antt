@@ -36,13 +36,13 @@ AreFields-within head n (s ∷ found) (f ∷ fields) fits within are valid =
     let some : 0 < length f.name = (All-head IsField f fields valid).name.0 in
     let size = length-slice_range head s.name.start s.name.end here.0.0 (omega arith) in
     All-cons (IsFieldSpan (length head)) (field_span s) (map field_span found)
-      (record {
-        name = omega (arith, ap length name);
-        name_within = omega arith;
-        value = here.1.0;
-        value_within = omega arith;
-      })
-      (AreFields-within head n found fields fits (All-tail (IsHeaderWithin n) s found within) others (All-tail IsField f fields valid))
+    (record {
+      name = omega (arith, ap length name);
+      name_within = omega arith;
+      value = here.1.0;
+      value_within = omega arith;
+    })
+    (AreFields-within head n found fields fits (All-tail (IsHeaderWithin n) s found within) others (All-tail IsField f fields valid))
 
 length-chosen-le : (t : Bool) (xs ys : List ℕ) (n : ℕ) → length xs ≤ n → length ys ≤ n → length (cond t xs ys) ≤ n
 length-chosen-le true xs ys n first second = first
@@ -57,8 +57,13 @@ length-skip_ows-le (b ∷ bytes) =
 length-trim_ows-le : (xs : List ℕ) → length (trim_ows xs) ≤ length xs
 unfolding trim_ows
 length-trim_ows-le xs =
-    omega (arith, length-reverse (skip_ows (reverse (skip_ows xs))), length-skip_ows-le (reverse (skip_ows xs)),
-      length-reverse (skip_ows xs), length-skip_ows-le xs)
+    omega (
+      arith,
+      length-reverse (skip_ows (reverse (skip_ows xs))),
+      length-skip_ows-le (reverse (skip_ows xs)),
+      length-reverse (skip_ows xs),
+      length-skip_ows-le xs,
+    )
 
 length-print_end-ge : (end : LineEnd) → 1 ≤ length (print_end end)
 length-print_end-ge crlf = omega arith
@@ -66,15 +71,25 @@ length-print_end-ge lf = omega arith
 
 field_size-le : (f : Field) → field_size (name_and_value f) ≤ length (print_field f)
 field_size-le f =
-    omega (arith, length-trim_ows-le f.raw, length-print_end-ge f.end,
-      length-append (f.name ++ (58 ∷ f.raw)) (print_end f.end), length-append f.name (58 ∷ f.raw))
+    omega (
+      arith,
+      length-trim_ows-le f.raw,
+      length-print_end-ge f.end,
+      length-append (f.name ++ (58 ∷ f.raw)) (print_end f.end),
+      length-append f.name (58 ∷ f.raw),
+    )
 
 sum-field_size-le : (fields : List Field)
     → sum_by field_size (map name_and_value fields) ≤ length (flat_map print_field fields)
 sum-field_size-le [] = omega arith
 sum-field_size-le (f ∷ fields) =
-    omega (arith, sum_by-cons field_size (name_and_value f) (map name_and_value fields),
-      field_size-le f, sum-field_size-le fields, length-append (print_field f) (flat_map print_field fields))
+    omega (
+      arith,
+      sum_by-cons field_size (name_and_value f) (map name_and_value fields),
+      field_size-le f,
+      sum-field_size-le fields,
+      length-append (print_field f) (flat_map print_field fields),
+    )
 
 section-fits : (fields : List Field) (end : LineEnd)
     → length (flat_map print_field fields) ≤ length (print_section fields end)

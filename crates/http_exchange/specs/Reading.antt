@@ -2,7 +2,7 @@
 use Rattle.std.specs.Prelude.{◌≡◌, ℕ, ◌⊎◌, Bool, List, Result, Ok, Err, codes, bytes_eq}
 use Rattle.httparse.specs.Grammar.{status_code}
 use Rattle.httparse.specs.Grammar.{RequestHead as RequestTree, ResponseHead as ResponseTree}
-use Rattle.header_values.specs.Fields.{pairs_in, AreGood}
+use Rattle.header_values.specs.Fields.{pairs_in, AreOfHead}
 use Rattle.http_exchange.specs.declared.refusals.BadKind.{BadKind}
 use Rattle.http_exchange.specs.declared.refusals.BadKind.TheVariants.{BadHead}
 use Rattle.http_exchange.specs.declared.request.RequestHead.{RequestHead}
@@ -17,14 +17,14 @@ abbrev pub ReadsRequestHead : List ℕ → Result RequestHead BadKind → Type 0
 ReadsRequestHead head result =
     (((h : RequestTree) → ¬ (IsRequest head h)) × (result ≡ Err BadHead))
     ⊎ ((h : RequestTree) × IsRequest head h
-        × (result ≡ request_of (bytes_eq h.method (codes "HEAD")) (pairs_of h.fields)))
+    × (result ≡ request_of (bytes_eq h.method (codes "HEAD")) (pairs_of h.fields)))
 
 -- what is read of a response head: its status, its fields, and how its body is framed
 pub record IsResponseRead (head : List ℕ) (to_head : Bool) (h : ResponseTree) (r : ResponseHead) : Type 0 where
   pub status : r.status ≡ status_code h
   pub head_is : r.fields.head.now ≡ head
   pub fields_are : pairs_in r.fields ≡ pairs_of h.fields
-  pub good : AreGood r.fields
+  pub good : AreOfHead r.fields
   pub frame : frame_of to_head (status_code h) (pairs_of h.fields) ≡ Ok r.frame
 
 -- what is read of a response head, or what its status and its fields are refused for

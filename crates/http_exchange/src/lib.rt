@@ -20,11 +20,10 @@ mod request;
 mod response;
 mod settled;
 mod spans;
-mod unframing;
-mod values;
-
 #[cfg(test)]
 mod tests;
+mod unframing;
+mod values;
 
 pub use ends::head_end;
 pub use first::{FirstRequest, FirstResponse, first_request, first_response};

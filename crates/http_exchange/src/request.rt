@@ -1,16 +1,15 @@
 //! Request heads (RFC 9112 2 to 5), and what a fetch tells of itself in their fields.
 ghost use Rattle.std.specs.Prelude.{◌≡◌, ◌≤◌, ◌&&◌, codes, length};
-ghost use Rattle.header_values.specs.Fields.{AreGood, pairs_in};
+ghost use Rattle.header_values.specs.Fields.{AreOfHead, pairs_in};
 ghost use Rattle.http_exchange.specs.RequestFields.{value_of, has_body as has_body_of, id_of, is_opaque as is_opaque_of, is_for_media as is_for_media_of, request_of};
 ghost use Rattle.http_exchange.specs.Reading.{ReadsRequestHead};
-
-use arrayvec::ArrayVec;
-use header_values::{FieldSpan, Fields, Scratch};
-use orb_bytes::{read_decimal, trim_http_ws};
 
 use crate::refusals::BadKind;
 use crate::spans::request_fields;
 use crate::values::{has_field, has_other, has_value};
+use arrayvec::ArrayVec;
+use header_values::{FieldSpan, Fields, Scratch};
+use orb_bytes::{read_decimal, trim_http_ws};
 
 /// What a request head says of the fetch that made it.
 #[derive(Clone, Copy, Debug, PartialEq, Eq)]
@@ -53,7 +52,7 @@ pub fn read_request(head: &[u8], scratch: &mut Scratch) -> Result<RequestHead, B
 /// What the method and the fields say, or the first refusal.
 #[tactic(auto, unfolding(crate::specs::RequestFields::request_of))]
 fn judged(is_head: bool, fields: &Fields, scratch: &mut Scratch) -> Result<RequestHead, BadKind>
-    requires fields { AreGood fields.now }
+    requires fields { AreOfHead fields.now }
     requires room { length fields.now.head.now ≤ scratch.old }
     ensures value { result ≡ request_of is_head (pairs_in fields.now) }
     ensures kept { scratch.new ≡ scratch.old }
@@ -79,7 +78,7 @@ fn judged(is_head: bool, fields: &Fields, scratch: &mut Scratch) -> Result<Reque
 /// Whether the fields announce a body.
 #[tactic(auto, unfolding(crate::specs::RequestFields::has_body))]
 fn has_body(fields: &Fields, scratch: &mut Scratch) -> bool
-    requires fields { AreGood fields.now }
+    requires fields { AreOfHead fields.now }
     requires room { length fields.now.head.now ≤ scratch.old }
     ensures value { result ≡ has_body_of (pairs_in fields.now) }
     ensures kept { scratch.new ≡ scratch.old }
@@ -91,7 +90,7 @@ fn has_body(fields: &Fields, scratch: &mut Scratch) -> bool
 
 /// The number in Orb-Media, if there is such a field.
 fn media_id(fields: &Fields, scratch: &mut Scratch) -> Result<Option<u64>, BadKind>
-    requires fields { AreGood fields.now }
+    requires fields { AreOfHead fields.now }
     requires room { length fields.now.head.now ≤ scratch.old }
     ensures value { result ≡ id_of (value_of (pairs_in fields.now) (codes "Orb-Media")) }
     ensures kept { scratch.new ≡ scratch.old }
@@ -107,7 +106,7 @@ fn media_id(fields: &Fields, scratch: &mut Scratch) -> Result<Option<u64>, BadKi
 
 #[tactic(auto, unfolding(crate::specs::RequestFields::is_opaque))]
 fn is_opaque(fields: &Fields, scratch: &mut Scratch) -> bool
-    requires fields { AreGood fields.now }
+    requires fields { AreOfHead fields.now }
     requires room { length fields.now.head.now ≤ scratch.old }
     ensures value { result ≡ is_opaque_of (pairs_in fields.now) }
     ensures kept { scratch.new ≡ scratch.old }
@@ -119,7 +118,7 @@ fn is_opaque(fields: &Fields, scratch: &mut Scratch) -> bool
 
 #[tactic(auto, unfolding(crate::specs::RequestFields::is_for_media))]
 fn is_for_media(fields: &Fields, scratch: &mut Scratch) -> bool
-    requires fields { AreGood fields.now }
+    requires fields { AreOfHead fields.now }
     requires room { length fields.now.head.now ≤ scratch.old }
     ensures value { result ≡ is_for_media_of (pairs_in fields.now) }
     ensures kept { scratch.new ≡ scratch.old }

@@ -1,21 +1,20 @@
 //! Response heads (RFC 9112 2 to 5), and how they frame the body (RFC 9112 6.3).
 ghost use Rattle.std.specs.Prelude.{◌≡◌, ◌≤◌, length, codes};
 ghost use Rattle.std.specs.List.{list_all};
-ghost use Rattle.header_values.specs.Fields.{AreGood, pairs_in};
+ghost use Rattle.header_values.specs.Fields.{AreOfHead, pairs_in};
 ghost use Rattle.header_values.specs.Joined.{joined};
 ghost use Rattle.header_values.specs.Parts.{parts_of, parts_left};
 ghost use Rattle.http_exchange.specs.RequestFields.{value_of};
 ghost use Rattle.http_exchange.specs.ResponseFields.{frame_of as frame_stated, framed, sized, length_of, same_length, writes};
 ghost use Rattle.http_exchange.specs.Reading.{ReadsResponseHead};
 
-use arrayvec::ArrayVec;
-use header_values::{FieldSpan, Fields, Parts, Scratch, parts};
-use orb_bytes::{eq_ignore_case, read_decimal, trim_http_ws};
-
 use crate::frames::BodyFrame;
 use crate::refusals::BadKind;
 use crate::spans::response_fields;
 use crate::values::has_field;
+use arrayvec::ArrayVec;
+use header_values::{FieldSpan, Fields, Parts, Scratch, parts};
+use orb_bytes::{eq_ignore_case, read_decimal, trim_http_ws};
 
 /// What a response head says.
 #[derive(Clone, Copy, Debug)]
@@ -70,7 +69,7 @@ fn frame_of(
     fields: &Fields,
     scratch: &mut Scratch,
 ) -> Result<BodyFrame, BadKind>
-    requires fields { AreGood fields.now }
+    requires fields { AreOfHead fields.now }
     requires room { length fields.now.head.now ≤ scratch.old }
     ensures value { result ≡ frame_stated to_head status (pairs_in fields.now) }
     ensures kept { scratch.new ≡ scratch.old }
@@ -87,7 +86,7 @@ fn frame_of(
 
 /// The frame that a Content-Length states; without one the body runs to the end of the input.
 fn length_stated(fields: &Fields, scratch: &mut Scratch) -> Result<BodyFrame, BadKind>
-    requires fields { AreGood fields.now }
+    requires fields { AreOfHead fields.now }
     requires room { length fields.now.head.now ≤ scratch.old }
     ensures value { result ≡ sized (joined (pairs_in fields.now) (codes "Content-Length")) }
     ensures kept { scratch.new ≡ scratch.old }
@@ -147,7 +146,7 @@ fn coded_or(
     fields: &Fields,
     scratch: &mut Scratch,
 ) -> Result<BodyFrame, BadKind>
-    requires fields { AreGood fields.now }
+    requires fields { AreOfHead fields.now }
     requires room { length fields.now.head.now ≤ scratch.old }
     requires stated { stated ≡ sized (joined (pairs_in fields.now) (codes "Content-Length")) }
     ensures value { result ≡ framed (value_of (pairs_in fields.now) (codes "Transfer-Encoding"))

@@ -17,11 +17,17 @@ returns-clause-found c =
     let rest : drop c.in-Ok-Complete.request.len head ≡ [] = drop_all c.in-Ok-Complete.request.len head (omega arith) in
     let whole : head ≡ print_request h ++ [] = parsed.reads.1 ∙ ap (λ (t : List ℕ). print_request h ++ t) rest in
     let few : length h.fields ≤ 128 =
-      omega (arith, ap length parsed.fields, length-map found (header_bytes head), length-map h.fields name_and_value,
-        length-take c.in-Ok-Complete.request.headers c.parse_request.new.headers) in
-    ( h
-    , ((parsed.reads.0, whole), few)
-    , c.eq.ensures ∙ ap (λ (t : List ℕ). bytes_eq t c.as_slice.result.now) (c.of.ensures ∙ parsed.method)
-      ∙ ap (λ (t : List ℕ). bytes_eq h.method t) c.as_slice.ensures
-    , rw c.keep.ensures (HasFields-found head c.in-Ok-Complete.request.len found h.fields h.last
-        within.section.len_fits within.section.headers_fit parsed.fields parsed.reads.0.fields (length-request head h whole)))
+    omega (
+      arith,
+      ap length parsed.fields,
+      length-map found (header_bytes head),
+      length-map h.fields name_and_value,
+      length-take c.in-Ok-Complete.request.headers c.parse_request.new.headers,
+    ) in (
+      h,
+      ((parsed.reads.0, whole), few),
+      c.eq.ensures ∙ ap (λ (t : List ℕ). bytes_eq t c.as_slice.result.now) (c.of.ensures ∙ parsed.method)
+          ∙ ap (λ (t : List ℕ). bytes_eq h.method t) c.as_slice.ensures,
+      rw c.keep.ensures (HasFields-found head c.in-Ok-Complete.request.len found h.fields h.last
+          within.section.len_fits within.section.headers_fit parsed.fields parsed.reads.0.fields (length-request head h whole)),
+    )

@@ -16,10 +16,16 @@ returns-clause-found c =
     let rest : drop c.in-Ok-Complete.response.len head ≡ [] = drop_all c.in-Ok-Complete.response.len head (omega arith) in
     let whole : head ≡ print_response h ++ [] = parsed.reads.1 ∙ ap (λ (t : List ℕ). print_response h ++ t) rest in
     let few : length h.fields ≤ 128 =
-      omega (arith, ap length parsed.fields, length-map found (header_bytes head), length-map h.fields name_and_value,
-        length-take c.in-Ok-Complete.response.headers c.parse_response.new.headers) in
-    ( h
-    , ((parsed.reads.0, whole), few)
-    , parsed.code
-    , rw c.keep.ensures (HasFields-found head c.in-Ok-Complete.response.len found h.fields h.last
-        within.section.len_fits within.section.headers_fit parsed.fields parsed.reads.0.fields (length-response head h whole)))
+    omega (
+      arith,
+      ap length parsed.fields,
+      length-map found (header_bytes head),
+      length-map h.fields name_and_value,
+      length-take c.in-Ok-Complete.response.headers c.parse_response.new.headers,
+    ) in (
+      h,
+      ((parsed.reads.0, whole), few),
+      parsed.code,
+      rw c.keep.ensures (HasFields-found head c.in-Ok-Complete.response.len found h.fields h.last
+          within.section.len_fits within.section.headers_fit parsed.fields parsed.reads.0.fields (length-response head h whole)),
+    )
