@@ -2,3 +2,14 @@ pub mod Head
 pub mod Fields
 pub mod Heads
 pub mod First
+pub mod Marks
+pub mod Chunked
+pub mod Frames
+pub mod Places
+pub mod Pieces
+pub mod Sound
+pub mod Reads
+pub mod Spans
+pub mod RequestFields
+pub mod ResponseFields
+pub mod Reading

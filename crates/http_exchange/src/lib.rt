@@ -1,17 +1,38 @@
-//! The heads of HTTP/1.1 exchanges (RFC 9112): where a head ends and what it says.
+//! The heads and bodies of HTTP/1.1 exchanges (RFC 9112) as they are sent.
 //!
-//! `specs/Head` says where a head ends, `specs/Heads` which bytes are a head: the grammar is that of
-//! `httparse`, and the whole text has to be one head with at most 128 fields. `specs/First` has the
-//! one form of exchange that is built so far.
+//! `specs/Head` says where a head ends, and `specs/Heads` which bytes are a head: the grammar is that
+//! of `httparse`, and the whole text has to be one head with at most 128 fields. What is read of one,
+//! [`read_request`] and [`read_response`], is said by its fields alone: `specs/RequestFields` and
+//! `specs/ResponseFields`. `specs/First` has the one form of exchange that the program takes so far.
+//!
+//! `specs/Frames` says which bytes are a body, and which of them are content; of chunked bodies
+//! `specs/Chunked` has the grammar. An [`Unframer`] reads a body in pieces, cut anywhere.
 #![tactic(auto)]
 
 mod ends;
 mod fields;
 mod first;
+mod frames;
+mod pieces;
+mod places;
 mod refusals;
+mod request;
+mod response;
 mod settled;
+mod spans;
+#[cfg(test)]
+mod tests;
+mod unframing;
+mod values;
 
 pub use ends::head_end;
 pub use first::{FirstRequest, FirstResponse, first_request, first_response};
+pub use frames::BodyFrame;
+pub use pieces::Taken;
 pub use refusals::BadKind;
-pub use settled::{head_length_stays, one_request, one_response};
+pub use request::{RequestHead, read_request};
+pub use response::{ResponseHead, read_response};
+pub use settled::{
+    fronts_of_bodies, head_length_stays, one_request, one_response, unframed_is_front,
+};
+pub use unframing::Unframer;

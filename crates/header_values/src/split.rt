@@ -1,0 +1,81 @@
+//! The parts of a value, one after the other.
+//!
+//! One look at each byte is enough: whether a comma cuts hangs on the bytes before it by three places
+//! alone, outside of a quoted string, inside of one, and behind a `\` in one.
+ghost use Rattle.std.specs.Prelude.{◌≡◌, ◌∷◌};
+ghost use Rattle.std.specs.Option.{option_copied};
+ghost use Rattle.header_values.specs.Parts.{after as place_after, is_cut, cut_from, cuts_left};
+
+use orb_bytes::trim_tab_or_space;
+
+/// Where a byte of a value stands.
+#[derive(Clone, Copy)]
+enum Place {
+    /// Outside of the quoted strings.
+    Outside,
+    /// In a quoted string.
+    Inside,
+    /// Behind a `\` in a quoted string.
+    Escaped,
+}
+
+impl Place {
+    /// Where the byte behind this one stands.
+    fn after(self, b: u8) -> Place
+        ensures { result ≡ place_after self b }
+    {
+        match (self, b) {
+            (Place::Outside, b'"') | (Place::Escaped, _) => Place::Inside,
+            (Place::Outside, _) | (Place::Inside, b'"') => Place::Outside,
+            (Place::Inside, b'\\') => Place::Escaped,
+            (Place::Inside, _) => Place::Inside,
+        }
+    }
+
+    /// Whether this byte ends a part.
+    fn cuts(self, b: u8) -> bool
+        ensures { result ≡ is_cut self b }
+    {
+        matches!(self, Place::Outside) && b == b','
+    }
+}
+
+/// The parts of a value, in order, each without tabs and spaces at its ends.
+///
+/// [`parts`](crate::parts) makes it.
+#[derive(Clone, Copy, Debug)]
+pub struct Parts<'a> {
+    pub(crate) rest: Option<&'a [u8]>,
+}
+
+impl<'a> Iterator for Parts<'a> {
+    ghost use Rattle.std.specs.Iterator.{YieldsFirstBy, item_count};
+    ghost use Rattle.header_values.specs.Parts.{parts_left};
+
+    type Item = &'a [u8];
+
+    ghost next_gives = { YieldsFirstBy (λ part. part.now) parts_left };
+
+    ghost remaining = { item_count parts_left };
+
+    fn next(&mut self) -> Option<&'a [u8]> {
+        let (part, rest) = split_part(self.rest?);
+        self.rest = rest;
+        Some(trim_tab_or_space(part))
+    }
+}
+
+/// The text before the first comma outside of the quoted strings, and the text behind it; without such a
+/// comma the whole text, and `None`.
+fn split_part(text: &[u8]) -> (&[u8], Option<&[u8]>)
+    ensures { cut_from Place.Outside text.now ≡ result.0.now ∷ cuts_left (option_copied result.1) }
+{
+    let mut place = Place::Outside;
+    for (i, b) in text.iter().enumerate() {
+        if place.cuts(*b) {
+            return (&text[..i], Some(&text[i + 1..]));
+        }
+        place = place.after(*b);
+    }
+    (text, None)
+}

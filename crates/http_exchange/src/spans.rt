@@ -1,0 +1,67 @@
+//! A whole head of the grammar, and where its fields stand (RFC 9112 2 to 5).
+ghost use Rattle.std.specs.Prelude.{◌≡◌, ◌≤◌, length, map, IfSome, IfNone, codes, bytes_eq};
+ghost use Rattle.httparse.specs.Grammar.{RequestHead, ResponseHead, status_code};
+ghost use Rattle.http_exchange.specs.Heads.{IsRequest, IsResponse};
+ghost use Rattle.http_exchange.specs.Spans.{HasFields, field_span};
+
+use arrayvec::ArrayVec;
+use header_values::FieldSpan;
+use httparse::Status;
+use httparse::spans::{EMPTY_HEADER_SPAN, HeaderSpan, parse_request, parse_response};
+
+/// The most fields that a head may have.
+const MOST_FIELDS: usize = 128;
+
+/// Whether the method of the request head is HEAD, with its fields in `spans`; `None` exactly where
+/// the bytes aren't one request head.
+pub(crate) fn request_fields(head: &[u8], spans: &mut ArrayVec<FieldSpan, 128>) -> Option<bool>
+    ensures found { IfSome result (λ is_head. (h : RequestHead) × IsRequest head.now h
+        × (is_head ≡ bytes_eq h.method (codes "HEAD"))
+        × HasFields head.now spans.new.items h.fields) }
+    ensures none { IfNone result ((h : RequestHead) → ¬ (IsRequest head.now h)) }
+{
+    let mut found = [EMPTY_HEADER_SPAN; MOST_FIELDS];
+    let Ok(Status::Complete(request)) = parse_request(head, &mut found) else {
+        return None;
+    };
+    if request.len != head.len() {
+        return None;
+    }
+    keep(&found[..request.headers], spans);
+    Some(request.method.of(head) == b"HEAD".as_slice())
+}
+
+/// The status of the response head, with its fields in `spans`; `None` exactly where the bytes
+/// aren't one response head.
+pub(crate) fn response_fields(head: &[u8], spans: &mut ArrayVec<FieldSpan, 128>) -> Option<u16>
+    ensures found { IfSome result (λ status. (h : ResponseHead) × IsResponse head.now h
+        × (status ≡ status_code h)
+        × HasFields head.now spans.new.items h.fields) }
+    ensures none { IfNone result ((h : ResponseHead) → ¬ (IsResponse head.now h)) }
+{
+    let mut found = [EMPTY_HEADER_SPAN; MOST_FIELDS];
+    let Ok(Status::Complete(response)) = parse_response(head, &mut found) else {
+        return None;
+    };
+    if response.len != head.len() {
+        return None;
+    }
+    keep(&found[..response.headers], spans);
+    Some(response.code)
+}
+
+/// Puts these spans in the place of what was there.
+fn keep(found: &[HeaderSpan], spans: &mut ArrayVec<FieldSpan, 128>)
+    requires { length found.now ≤ 128 }
+    ensures { spans.new.items ≡ map field_span found.now }
+{
+    spans.clear();
+    for span in found {
+        spans.push(FieldSpan {
+            name_start: span.name.start,
+            name_end: span.name.end,
+            value_start: span.value.start,
+            value_end: span.value.end,
+        });
+    }
+}

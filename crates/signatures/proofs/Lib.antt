@@ -1,0 +1,5 @@
+pub mod PlaceLemmas
+pub mod PatternLemmas
+pub mod Mp4Lemmas
+pub mod WebmLemmas
+pub mod MpegLemmas

@@ -1,0 +1,5 @@
+pub mod Patterns
+pub mod Mp4
+pub mod Webm
+pub mod Mpeg
+pub mod Rows

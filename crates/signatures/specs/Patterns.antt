@@ -1,0 +1,37 @@
+-- Patterns of bytes under a mask, and where a text stands in a window (WHATWG MIME Sniffing 6).
+use Rattle.std.specs.Prelude.{◌≡◌, ℕ, zero, suc, ◌<◌, ◌≤◌, Bool, true, false, ◌&&◌, ◌||◌, ◌==◌, nat_eq, List, [], ◌∷◌, length, drop, slice_index, bit_and, if◌then◌else◌}
+use Rattle.std.specs.List.{starts_with}
+use Rattle.orb_bytes.specs.Bytes.{is_whitespace_byte}
+use Rattle.orb_bytes.specs.Trim.{without_leading}
+
+-- the text begins with the pattern: it has a byte at each place of the pattern, and that byte under
+-- the mask is the pattern's
+abbrev pub begins_masked : List ℕ → List ℕ → List ℕ → Bool
+begins_masked [] mask text = true
+begins_masked (b ∷ bytes) [] text = false
+begins_masked (b ∷ bytes) (m ∷ mask) [] = false
+begins_masked (b ∷ bytes) (m ∷ mask) (t ∷ text) = bit_and t m == b && begins_masked bytes mask text
+
+-- the window from where a pattern is looked for: behind its leading whitespace bytes, where those
+-- are ignored
+abbrev pub sniffed_part : Bool → List ℕ → List ℕ
+sniffed_part skip window = if skip then without_leading is_whitespace_byte window else window
+
+-- the window matches the pattern (WHATWG MIME Sniffing 6, the pattern matching algorithm)
+abbrev pub is_match : List ℕ → List ℕ → Bool → List ℕ → Bool
+is_match bytes mask skip window = begins_masked bytes mask (sniffed_part skip window)
+
+-- the same, said of each place of the pattern
+pub record MatchesByPlace (bytes mask : List ℕ) (skip : Bool) (window : List ℕ) : Type 0 where
+  pub long : length bytes ≤ length (sniffed_part skip window)
+  pub each : (k : ℕ) → k < length bytes
+      → bit_and (slice_index (sniffed_part skip window) k) (slice_index mask k) ≡ slice_index bytes k
+
+-- the text stands in the window at the place
+abbrev pub stands_at : List ℕ → ℕ → List ℕ → Bool
+stands_at text place window = starts_with nat_eq (drop place window) text
+
+-- the test passes at some place below the end
+unfoldable pub some_below : ℕ → (ℕ → Bool) → Bool
+some_below zero test = false
+some_below (suc n) test = test n || some_below n test

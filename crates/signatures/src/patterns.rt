@@ -1,0 +1,127 @@
+//! Patterns of bytes under a mask (WHATWG MIME Sniffing 6).
+ghost use Rattle.std.specs.Prelude.{◌≡◌, length, drop, find};
+ghost use Rattle.std.specs.List.{list_all};
+ghost use Rattle.std.specs.Option.{option_map};
+ghost use Rattle.orb_bytes.specs.Bytes.{is_whitespace_byte};
+ghost use Rattle.orb_bytes.specs.Trim.{without_leading};
+ghost use Rattle.signatures.specs.Patterns.{begins_masked, is_match, stands_at as text_stands_at};
+
+use orb_bytes::is_space_byte;
+
+/// Bytes that a window begins with, each under a mask: a bit that the mask has not is free.
+#[derive(Clone, Copy, Debug)]
+pub struct Pattern {
+    /// What the window's bytes are under the mask.
+    pub bytes: &'static [u8],
+    /// The bits that count, for each byte of the pattern.
+    pub mask: &'static [u8],
+    /// Whether whitespace bytes before the pattern are ignored.
+    pub skip_space: bool,
+    ghost same_length: { length mask.now ≡ length bytes.now },
+}
+
+impl Pattern {
+    /// Whether the window matches the pattern: behind its leading whitespace bytes, where those are
+    /// ignored, it has a byte for each of the pattern's, and that byte under the mask is the
+    /// pattern's.
+    pub fn matches(&self, window: &[u8]) -> bool
+        ensures { result ≡ is_match self.now.bytes.now self.now.mask.now self.now.skip_space window.now }
+    {
+        let text = if self.skip_space {
+            behind_space(window)
+        } else {
+            window
+        };
+        begins_masked(self.bytes, self.mask, text)
+    }
+}
+
+/// Whether the text begins with the bytes, each under its mask.
+fn begins_masked(bytes: &[u8], mask: &[u8], text: &[u8]) -> bool
+    requires { length mask.now ≡ length bytes.now }
+    ensures { result ≡ begins_masked bytes.now mask.now text.now }
+{
+    if text.len() < bytes.len() {
+        return false;
+    }
+    for (place, byte) in bytes.iter().enumerate() {
+        if text[place] & mask[place] != *byte {
+            return false;
+        }
+    }
+    true
+}
+
+/// The text without its leading whitespace bytes.
+fn behind_space(text: &[u8]) -> &[u8]
+    ensures { result.now ≡ without_leading is_whitespace_byte text.now }
+{
+    let mut rest = text;
+    'leading: while let [first, others @ ..] = rest
+        && is_space_byte(*first)
+    {
+        rest = others;
+    }
+    rest
+}
+
+/// The type of the first pattern that the window matches.
+pub fn first_match<K: Copy>(rows: &[(Pattern, K)], window: &[u8]) -> Option<K>
+    ensures { result ≡ option_map (λ row. row.1) (find (λ row.
+        is_match row.0.bytes.now row.0.mask.now row.0.skip_space window.now) rows.now) }
+{
+    rows.iter()
+        .find(|(pattern, _)| pattern.matches(window))
+        .map(|(_, kind)| *kind)
+}
+
+/// The window from the place on; empty where the place is past its end.
+pub fn behind(place: usize, window: &[u8]) -> &[u8]
+    ensures { result.now ≡ drop place window.now }
+{
+    match window.get(place..) {
+        Some(rest) => rest,
+        None => &[],
+    }
+}
+
+/// Whether the text stands in the window at the place.
+pub fn stands_at(text: &[u8], place: usize, window: &[u8]) -> bool
+    ensures { result ≡ text_stands_at text.now place window.now }
+{
+    behind(place, window).starts_with(text)
+}
+
+#[cfg(test)]
+mod tests {
+    use super::*;
+
+    #[test]
+    fn masks_and_white_space_count(rt: HostRuntime) {
+        let plain = Pattern {
+            bytes: b"A\0C",
+            mask: b"\xdf\0\xff",
+            skip_space: false,
+        };
+        let skipping = Pattern {
+            bytes: b"A\0C",
+            mask: b"\xdf\0\xff",
+            skip_space: true,
+        };
+        // window, matched as it is, matched behind white space
+        let rows: [(&[u8], bool, bool); 8] = [
+            (b"A\xffC", true, true),
+            (b"a.CD", true, true),
+            (b"A.c", false, false),
+            (b"A.", false, false),
+            (b"", false, false),
+            (b" \t\n\x0c\rA.C", false, true),
+            (b"\x0bA.C", false, false),
+            (b" ", false, false),
+        ];
+        for (window, as_it_is, behind_space) in rows {
+            assert_eq!(rt; plain.matches(window), as_it_is, "{window:?}");
+            assert_eq!(rt; skipping.matches(window), behind_space, "{window:?}");
+        }
+    }
+}
