@@ -1,0 +1,87 @@
+//! What bytes come from and go to.
+ghost use Rattle.std.specs.Prelude.{◌≡◌, ℕ, ◌-◌, ◌^◌, ◌≤◌, List, Option, IfSome};
+ghost use Rattle.std.specs.Io.{ReadsAtMost};
+ghost use Rattle.orb_io.specs.Told.{Pulls, Pushes, HasCause, NumberOf};
+
+/// A pull or a push that failed.
+#[derive(Clone, Copy, Debug, PartialEq, Eq)]
+pub struct Failed;
+
+/// Want of memory.
+#[derive(Clone, Copy, Debug, PartialEq, Eq)]
+pub struct NoMemory;
+
+/// What bytes come from.
+pub trait Source {
+    // The bytes still to come, where they are told.
+    ghost left: { Self → Option (List ℕ) };
+
+    // How many faults there were.
+    ghost faults: { Self → ℕ };
+
+    // What every pull leaves as it was, from the state before to the state after.
+    ghost kept: { Self → Self → Type 0 };
+
+    /// Takes the next bytes into the front of `buf`, and answers how many: none only at the end of
+    /// the input or where `buf` is empty. The rest of `buf`, and after [`Failed`] all of it, may
+    /// hold anything.
+    ///
+    /// Answers [`Failed`] only where the count of faults rose, and then nothing was taken.
+    fn pull(&mut self, buf: &mut [u8]) -> Result<usize, Failed>
+        ensures bound { ReadsAtMost result buf.new }
+        ensures bytes { Pulls (left self.old) (left self.new) result buf.new }
+        ensures cause { HasCause (faults self.old) (faults self.new) result }
+        ensures keeps { kept self.old self.new };
+
+    ghost kept_reflexive: { (s : Self) → kept s s };
+
+    ghost kept_transitive: { (r s t : Self) → kept r s → kept s t → kept r t };
+}
+
+/// What bytes go to.
+pub trait Sink {
+    // The bytes so far, where they are told.
+    ghost put: { Self → Option (List ℕ) };
+
+    // The lesser of their number and the last u64, where it is told.
+    ghost size: { Self → Option ℕ };
+
+    // How many faults there were.
+    ghost faults: { Self → ℕ };
+
+    // What every push leaves as it was, from the state before to the state after.
+    ghost kept: { Self → Self → Type 0 };
+
+    /// Appends the whole piece.
+    ///
+    /// Answers [`Failed`] only where the count of faults rose, and then a front of the piece was
+    /// appended.
+    fn push(&mut self, piece: &[u8]) -> Result<(), Failed>
+        ensures bytes { Pushes (put self.old) (put self.new) (size self.old) (size self.new)
+            result piece.now }
+        ensures cause { HasCause (faults self.old) (faults self.new) result }
+        ensures keeps { kept self.old self.new };
+
+    ghost number: { (s : Self) → NumberOf (put s) (size s) };
+
+    ghost number_fits: { (s : Self) → IfSome (size s) (λ n. n ≤ 2 ^ 64 - 1) };
+
+    ghost kept_reflexive: { (s : Self) → kept s s };
+
+    ghost kept_transitive: { (r s t : Self) → kept r s → kept s t → kept r t };
+}
+
+/// A source and a sink at once: a pull leaves the sink as it was, and a push the source.
+pub trait Duplex: Source + Sink {
+    ghost pull_leaves_put: { (s t : Self) → Self.Source.kept s t → Self.put t ≡ Self.put s };
+
+    ghost pull_leaves_size: { (s t : Self) → Self.Source.kept s t → Self.size t ≡ Self.size s };
+
+    ghost pull_leaves_faults: { (s t : Self) → Self.Source.kept s t
+        → Self.Sink.faults t ≡ Self.Sink.faults s };
+
+    ghost push_leaves_left: { (s t : Self) → Self.Sink.kept s t → Self.left t ≡ Self.left s };
+
+    ghost push_leaves_faults: { (s t : Self) → Self.Sink.kept s t
+        → Self.Source.faults t ≡ Self.Source.faults s };
+}
