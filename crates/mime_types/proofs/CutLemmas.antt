@@ -7,6 +7,7 @@ use Rattle.orb_bytes.specs.Bytes.{is_http_whitespace, is_token_byte}
 use Rattle.mime_types.specs.Spans.{begins_outside}
 use Rattle.mime_types.specs.Mime.{is_empty, QuotedUnit, itself, escaped, print_unit, is_unit, Close, by_quote, by_end, by_backslash, print_close, is_at_end, Assigned, nothing, quoted, plain, print_assigned, is_no_semicolon, is_assigned, is_last, Segment, print_segment, is_name_byte, is_segment, print_segments, are_segments, is_token, Cut, IsCut, mime_of, HasOneRecord}
 use Rattle.mime_types.proofs.SpanLemmas.{span_unique}
+use Rattle.mime_types.proofs.BoolLemmas.{true_from_not_not}
 
 -- what may stand behind the units of a quoted string
 abbrev pub stops_units : List ℕ → Bool
@@ -169,13 +170,9 @@ assigned_unique (quoted us c i) (quoted vs d j) r q is_f is_g end_r end_q out_r 
     let same_ignored : i ≡ j = closes.1 in
     (cc, closes.2)
 
-not_not : (b : Bool) → not (not b) ≡ true → b ≡ true
-not_not true is = refl
-not_not false is = absurd (cc)
-
 -- a byte at which bytes other than `;` end
 pub is_semicolon : (b : ℕ) (r : List ℕ) → begins_outside is_no_semicolon (b ∷ r) ≡ true → b ≡ 59
-is_semicolon b r out = eqb-true b 59 (not_not (nat_eq b 59) out)
+is_semicolon b r out = eqb-true b 59 (true_from_not_not (nat_eq b 59) out)
 
 -- what stands behind a name doesn't go on with it
 pub assigned_begins : (f : Assigned) (r : List ℕ) → begins_outside is_no_semicolon r ≡ true

@@ -7,7 +7,8 @@ use Rattle.std.proofs.lemmas.Bool.{and_parts, and_from}
 use Rattle.orb_bytes.specs.Bytes.{is_token_byte, is_http_whitespace}
 use Rattle.orb_bytes.specs.Trim.{trimmed, without_trailing}
 use Rattle.mime_types.specs.Spans.{Spans}
-use Rattle.mime_types.specs.Mime.{is_token, is_no_semicolon, Cut, IsCut, mime_of, HasNoMime, IsEssence, WritesEssence, print_segments}
+use Rattle.mime_types.specs.Mime.{is_token, is_no_semicolon, Cut, IsCut, mime_of, IsMime, HasNoMime, IsEssence, WritesEssence, print_segments}
+use Rattle.mime_types.specs.Reading.{ReadsEssence, ReadsParameters}
 use Rattle.mime_types.proofs.SpanLemmas.{span_unique}
 use Rattle.mime_types.proofs.CutLemmas.{is_no_slash, token_no_slash, token_no_semicolon, token_no_space, space_no_semicolon, class_within, token_bytes, segments_begin}
 use Rattle.mime_types.proofs.TrailingLemmas.{without_trailing-append, without_trailing-none, trailing_of}
@@ -54,24 +55,36 @@ essence_only text inner main behind field tail sub cut is trim whole slash spans
           ∙ ap (without_trailing is_http_whitespace) subs.0 ∙ sym end,
     )
 
--- tokens at both sides of the `/` make a cut, whatever the tail holds
-pub essence_cut : (text inner main behind field tail sub : List ℕ)
+-- tokens at both sides of the `/` are an essence
+pub essence_read : (text inner main behind field tail sub : List ℕ)
     → inner ≡ trimmed is_http_whitespace text → inner ≡ main ++ (47 ∷ behind)
     → Spans is_no_semicolon behind field tail → sub ≡ without_trailing is_http_whitespace field
-    → is_token main ≡ true → is_token sub ≡ true → WritesEssence text main sub
-essence_cut text inner main behind field tail sub trim whole spans end main_is sub_is =
+    → is_token main ≡ true → is_token sub ≡ true → ReadsEssence text main sub tail
+essence_read text inner main behind field tail sub trim whole spans end is_main is_sub =
     let space = trailing_of is_http_whitespace field in
-    let segments = segments_of tail spans.stops in
-    let shown : behind ≡ sub ++ (space.0 ++ print_segments segments.segments) =
+    let shown : behind ≡ sub ++ (space.0 ++ tail) =
     spans.whole ∙ ap (λ front. front ++ tail) (space.2 ∙ ap (λ front. front ++ space.0) (sym end))
-    ∙ append_assoc sub space.0 tail ∙ ap (λ back. sub ++ (space.0 ++ back)) segments.whole in
-    let cut : Cut = record { main = main; sub = sub; space = space.0; segments = segments.segments } in (
+    ∙ append_assoc sub space.0 tail in
+    record {
+      space = space.0;
+      whole = sym trim ∙ whole ∙ ap (λ back. main ++ (47 ∷ back)) shown;
+      is_main = is_main;
+      is_sub = is_sub;
+      is_space = space.1;
+      begins = spans.stops;
+    }
+
+-- an essence makes a cut, whatever the tail holds
+pub essence_cut : (text main sub tail : List ℕ) → ReadsEssence text main sub tail → WritesEssence text main sub
+essence_cut text main sub tail reads =
+    let segments = segments_of tail reads.begins in
+    let cut : Cut = record { main = main; sub = sub; space = reads.space; segments = segments.segments } in (
       cut,
       record {
-        whole = sym trim ∙ whole ∙ ap (λ back. main ++ (47 ∷ back)) shown;
-        main = main_is;
-        sub = sub_is;
-        space = space.1;
+        whole = reads.whole ∙ ap (λ back. main ++ (47 ∷ (sub ++ (reads.space ++ back)))) segments.whole;
+        main = reads.is_main;
+        sub = reads.is_sub;
+        space = reads.is_space;
         segments = segments.are;
       },
       refl,
@@ -91,3 +104,26 @@ essence_none text main sub only (inr sub_is) mime is =
 pub essence_written : (text main sub : List ℕ) → WritesEssence text main sub → IsEssence text main sub
 essence_written text main sub written =
     (mime_of written.0, (written.0, written.1, refl), ap str_to_ascii_lowercase written.2, ap str_to_ascii_lowercase written.3)
+
+-- a text with an essence has a record
+pub essence_some : (text main sub tail : List ℕ) → ReadsEssence text main sub tail → HasNoMime text → ⊥
+essence_some text main sub tail reads none =
+    let written = essence_cut text main sub tail reads in
+    none (mime_of written.0) (written.0, written.1, refl)
+
+-- the record of a text whose parts are read
+pub mime_read : (text main sub tail small_main small_sub : List ℕ) (pairs : List (List ℕ × List ℕ))
+    → ReadsEssence text main sub tail → small_main ≡ str_to_ascii_lowercase main → small_sub ≡ str_to_ascii_lowercase sub
+    → ReadsParameters tail pairs → IsMime text (record { main = small_main; sub = small_sub; parameters = pairs })
+mime_read text main sub tail small_main small_sub pairs reads main_is sub_is parameters =
+    let cut : Cut = record { main = main; sub = sub; space = reads.space; segments = parameters.0 } in (
+      cut,
+      record {
+        whole = reads.whole ∙ ap (λ back. main ++ (47 ∷ (sub ++ (reads.space ++ back)))) parameters.2;
+        main = reads.is_main;
+        sub = reads.is_sub;
+        space = reads.is_space;
+        segments = parameters.1;
+      },
+      λ i. record { main = main_is i; sub = sub_is i; parameters = parameters.3 i },
+    )

@@ -1,6 +1,13 @@
+pub mod BoolLemmas
 pub mod SpanLemmas
 pub mod CutLemmas
-pub mod Examples
 pub mod TrailingLemmas
+pub mod ReadingLemmas
 pub mod SegmentLemmas
 pub mod EssenceLemmas
+pub mod NameLemmas
+pub mod KeepingLemmas
+pub mod RecordLemmas
+pub mod StoredLemmas
+pub mod TextLemmas
+pub mod Examples

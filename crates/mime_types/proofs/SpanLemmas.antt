@@ -6,6 +6,7 @@ use Rattle.memchr.specs.Find.{IsFirstByte}
 use Rattle.std.specs.List.{list_all}
 use Rattle.std.proofs.lemmas.Bool.{and_parts, and_from}
 use Rattle.mime_types.specs.Spans.{begins_outside, Spans}
+use Rattle.mime_types.proofs.BoolLemmas.{not_from_never}
 
 pub span_unique : (test : ℕ → Bool) (a b x y : List ℕ) → list_all test a ≡ true → list_all test b ≡ true
     → begins_outside test x ≡ true → begins_outside test y ≡ true → a ++ x ≡ b ++ y → (a ≡ b) × (x ≡ y)
@@ -49,17 +50,13 @@ span_of test (b ∷ text) =
       | false ↦ λ outside. ([], b ∷ text, record { whole = refl; inside = refl; stops = ap not outside })
     ] refl
 
-fails : (b : Bool) → (b ≡ true → ⊥) → not b ≡ true
-fails true never = absurd (never refl)
-fails false never = refl
-
 -- the front of a text in which a test passes nowhere
 pub front_fails : (test : ℕ → Bool) (n : ℕ) (text : List ℕ) → n ≤ length text
     → ((k : ℕ) → k < n → test (get_or text k 0) ≡ true → ⊥) → list_all (λ b. not (test b)) (take n text) ≡ true
 front_fails test zero text within nowhere = refl
 front_fails test (suc n) [] within nowhere = absurd (omega arith)
 front_fails test (suc n) (b ∷ text) within nowhere =
-    and_from (not (test b)) (list_all (λ b. not (test b)) (take n text)) (fails (test b) (nowhere 0 (omega arith)))
+    and_from (not (test b)) (list_all (λ b. not (test b)) (take n text)) (not_from_never (test b) (nowhere 0 (omega arith)))
     (front_fails test n text (omega arith) (λ k below. nowhere (suc k) (omega arith)))
 
 -- the whole text, where the search finds none

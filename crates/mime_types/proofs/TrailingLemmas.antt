@@ -5,7 +5,9 @@ use Rattle.std.proofs.lemmas.List.{reverse-append, reverse-reverse}
 use Rattle.std.proofs.lemmas.List.Folds.{list_all-append}
 use Rattle.std.proofs.lemmas.Bool.{and_parts, and_from}
 use Rattle.orb_bytes.specs.Trim.{without_leading, without_trailing}
+use Rattle.mime_types.specs.Spans.{begins_outside}
 use Rattle.orb_bytes.proofs.TrimLemmas.{without_trailing-more, without_trailing-outside}
+use Rattle.mime_types.proofs.BoolLemmas.{false_from_not}
 
 pub list_all_at : (test : ℕ → Bool) (text : List ℕ) (k d : ℕ) → k < length text → list_all test text ≡ true
     → test (get_or text k d) ≡ true
@@ -32,7 +34,8 @@ without_trailing-append test text (b ∷ trailing) are =
     ∙ without_trailing-append test (text ++ b ∷ []) trailing parts.1
     ∙ without_trailing-more test text b parts.0
 
-leading_of : (test : ℕ → Bool) (text : List ℕ)
+-- what trimming takes from the front is of the class
+pub leading_of : (test : ℕ → Bool) (text : List ℕ)
     → (leading : List ℕ) × (list_all test leading ≡ true) × (text ≡ leading ++ without_leading test text)
 leading_of test [] = ([], refl, refl)
 leading_of test (b ∷ text) =
@@ -40,6 +43,15 @@ leading_of test (b ∷ text) =
       | true ↦ λ inside. let more = leading_of test text in
           (b ∷ more.0, and_from (test b) (list_all test more.0) inside more.1, rw inside (ap (λ rest. b ∷ rest) more.2))
       | false ↦ λ outside. ([], refl, rw outside refl)
+    ] refl
+
+-- what is left begins with none of it
+pub without_leading_begins : (test : ℕ → Bool) (text : List ℕ) → begins_outside test (without_leading test text) ≡ true
+without_leading_begins test [] = refl
+without_leading_begins test (b ∷ text) =
+    elim (test b) as (λ v. test b ≡ v → begins_outside test (without_leading test (b ∷ text)) ≡ true) [
+      | true ↦ λ inside. rw inside (without_leading_begins test text)
+      | false ↦ λ outside. rw outside (ap not outside)
     ] refl
 
 -- what trimming takes from the end is of the class
@@ -58,8 +70,5 @@ pub without_trailing-none : (test : ℕ → Bool) (text : List ℕ) → list_all
 without_trailing-none test [] none = refl
 without_trailing-none test (b ∷ text) none =
     without_trailing-outside test (b ∷ text) (omega arith)
-    (fails (test (get_or (b ∷ text) (length (b ∷ text) - 1) 0))
-    (list_all_at (λ b. not (test b)) (b ∷ text) (length (b ∷ text) - 1) 0 (omega arith) none)) where
-      fails : (v : Bool) → not v ≡ true → v ≡ false
-      fails true is = absurd (cc)
-      fails false is = refl
+    (false_from_not (test (get_or (b ∷ text) (length (b ∷ text) - 1) 0))
+    (list_all_at (λ b. not (test b)) (b ∷ text) (length (b ∷ text) - 1) 0 (omega arith) none))

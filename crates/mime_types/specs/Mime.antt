@@ -1,7 +1,7 @@
 -- MIME types as texts write them (WHATWG MIME Sniffing 4.4). The text of a MIME type is cut into
 -- its parts; each part is a tree with a printer to its bytes, and a test that says which trees are
 -- valid. The record is what the cut stands for.
-use Rattle.std.specs.Prelude.{◌≡◌, ℕ, Bool, true, false, ◌&&◌, ◌||◌, ◌==◌, not, if◌then◌else◌, List, [], ◌∷◌, ◌++◌, map, filter, Option, Some, None, bytes_eq}
+use Rattle.std.specs.Prelude.{◌≡◌, ℕ, Bool, true, false, ◌&&◌, ◌||◌, ◌==◌, not, if◌then◌else◌, List, [], ◌∷◌, ◌++◌, map, filter, Option, Some, None, option_map, bytes_eq}
 use Rattle.std.specs.List.{list_all, flat_map, filter_map}
 use Rattle.std.specs.Str.{str_to_ascii_lowercase}
 use Rattle.orb_bytes.specs.Bytes.{AllPass, is_http_whitespace, is_token_byte, is_quoted_token_byte}
@@ -14,6 +14,7 @@ pub record Mime : Type 0 where
   pub sub : List ℕ
   pub parameters : List (List ℕ × List ℕ)
 
+-- the list has no element
 abbrev pub is_empty : {X : Type 0} → List X → Bool
 is_empty [] = true
 is_empty (x ∷ xs) = false
@@ -27,6 +28,7 @@ is_token text = not (is_empty text) && list_all is_token_byte text
 pub data QuotedUnit : Type 0 where
   itself escaped : (byte : ℕ) → QuotedUnit
 
+-- the bytes of a unit
 abbrev pub print_unit : QuotedUnit → List ℕ
 print_unit (itself byte) = byte ∷ []
 print_unit (escaped byte) = 92 ∷ (byte ∷ [])
@@ -45,6 +47,7 @@ unit_value (escaped byte) = byte
 pub data Close : Type 0 where
   by_quote by_end by_backslash : Close
 
+-- the bytes of a close
 abbrev pub print_close : Close → List ℕ
 print_close by_quote = 34 ∷ []
 print_close by_end = []
@@ -62,6 +65,7 @@ is_at_end by_quote = false
 is_at_end by_end = true
 is_at_end by_backslash = true
 
+-- the value of a quoted string: the bytes of its units, and what its close stands for
 abbrev pub quoted_value : List QuotedUnit → Close → List ℕ
 quoted_value units close = map unit_value units ++ close_value close
 
@@ -72,6 +76,7 @@ pub data Assigned : Type 0 where
   quoted : (units : List QuotedUnit) (close : Close) (ignored : List ℕ) → Assigned
   plain : (value : List ℕ) → Assigned
 
+-- the bytes of what is assigned
 abbrev pub print_assigned : Assigned → List ℕ
 print_assigned nothing = []
 print_assigned (quoted units close ignored) =
@@ -82,8 +87,8 @@ print_assigned (plain value) = 61 ∷ value
 abbrev pub is_no_semicolon : ℕ → Bool
 is_no_semicolon b = not (b == 59)
 
--- what is ignored, and a plain value, end at the next `;`. A plain value doesn't begin with `"`, and
--- behind a string that goes to the end of the text nothing is ignored.
+-- what is ignored, and a plain value, end at the next `;`. A plain value doesn't begin with `"`,
+-- and behind a string that goes to the end of the text nothing is ignored.
 abbrev pub is_assigned : Assigned → Bool
 is_assigned nothing = true
 is_assigned (quoted units close ignored) =
@@ -97,12 +102,14 @@ is_last nothing = false
 is_last (quoted units close ignored) = is_at_end close
 is_last (plain value) = false
 
--- a segment of what stands behind the essence: `;`, HTTP whitespace, a name, and what it is assigned
+-- a segment of what stands behind the essence: `;`, HTTP whitespace, a name, and what it is
+-- assigned
 pub record Segment : Type 0 where
   pub space : List ℕ
   pub name : List ℕ
   pub assigned : Assigned
 
+-- the bytes of a segment
 abbrev pub print_segment : Segment → List ℕ
 print_segment s = 59 ∷ (s.space ++ (s.name ++ print_assigned s.assigned))
 
@@ -114,8 +121,10 @@ is_name_byte b = not (b == 59 || b == 61)
 abbrev pub is_segment : Segment → Bool
 is_segment s =
     list_all is_http_whitespace s.space
-    && (begins_outside is_http_whitespace s.name && (list_all is_name_byte s.name && is_assigned s.assigned))
+    && (begins_outside is_http_whitespace s.name
+    && (list_all is_name_byte s.name && is_assigned s.assigned))
 
+-- the bytes of segments
 abbrev pub print_segments : List Segment → List ℕ
 print_segments segments = flat_map print_segment segments
 
@@ -141,20 +150,20 @@ pub record IsCut (text : List ℕ) (cut : Cut) : Type 0 where
   pub space : AllPass is_http_whitespace cut.space
   pub segments : are_segments cut.segments ≡ true
 
--- a name and its value, unless the value is empty
-abbrev pub unless_empty : List ℕ → List ℕ → Option (List ℕ × List ℕ)
-unless_empty name value = if is_empty value then None else Some (name, value)
+-- the value, unless it is empty
+abbrev pub unless_empty : List ℕ → Option (List ℕ)
+unless_empty value = if is_empty value then None else Some value
 
--- the name and what it is assigned. A plain value loses HTTP whitespace at its end, and is none where
--- nothing is left.
-abbrev pub assigned_pair : List ℕ → Assigned → Option (List ℕ × List ℕ)
-assigned_pair name nothing = None
-assigned_pair name (quoted units close ignored) = Some (name, quoted_value units close)
-assigned_pair name (plain value) = unless_empty name (without_trailing is_http_whitespace value)
+-- the value that a name is assigned, if any. A plain one loses HTTP whitespace at its end, and is
+-- none where nothing is left.
+abbrev pub assigned_value : Assigned → Option (List ℕ)
+assigned_value nothing = None
+assigned_value (quoted units close ignored) = Some (quoted_value units close)
+assigned_value (plain value) = unless_empty (without_trailing is_http_whitespace value)
 
--- the pair that a segment stands for, if any: its name in small letters
+-- the pair that a segment stands for, if any: its name in small letters, and its value
 abbrev pub pair_of : Segment → Option (List ℕ × List ℕ)
-pair_of s = assigned_pair (str_to_ascii_lowercase s.name) s.assigned
+pair_of s = option_map (λ value. (str_to_ascii_lowercase s.name, value)) (assigned_value s.assigned)
 
 -- the name is a token, and the value solely HTTP quoted-string token code points
 abbrev pub is_parameter : List ℕ × List ℕ → Bool

@@ -45,6 +45,7 @@ javascript_essences =
 abbrev pub is_javascript_type : List ℕ → List ℕ → Bool
 is_javascript_type main sub = is_among javascript_essences main sub
 
+-- the essences that are JSON MIME types by name
 unfoldable pub json_essences : List (List ℕ × List ℕ)
 json_essences = (codes "application", codes "json") ∷ (codes "text", codes "json") ∷ []
 
@@ -52,6 +53,7 @@ json_essences = (codes "application", codes "json") ∷ (codes "text", codes "js
 abbrev pub is_json_type : List ℕ → List ℕ → Bool
 is_json_type main sub = ends_in (codes "+json") sub || is_among json_essences main sub
 
+-- the essences that are XML MIME types by name
 unfoldable pub xml_essences : List (List ℕ × List ℕ)
 xml_essences = (codes "text", codes "xml") ∷ (codes "application", codes "xml") ∷ []
 
@@ -59,6 +61,7 @@ xml_essences = (codes "text", codes "xml") ∷ (codes "application", codes "xml"
 abbrev pub is_xml_type : List ℕ → List ℕ → Bool
 is_xml_type main sub = ends_in (codes "+xml") sub || is_among xml_essences main sub
 
+-- the essence of HTML
 unfoldable pub html_essences : List (List ℕ × List ℕ)
 html_essences = (codes "text", codes "html") ∷ []
 
@@ -66,22 +69,27 @@ html_essences = (codes "text", codes "html") ∷ []
 abbrev pub is_html_type : List ℕ → List ℕ → Bool
 is_html_type main sub = is_among html_essences main sub
 
+-- the essence of plain text
 unfoldable pub plain_text_essences : List (List ℕ × List ℕ)
 plain_text_essences = (codes "text", codes "plain") ∷ []
 
+-- `text/plain`
 abbrev pub is_plain_text_type : List ℕ → List ℕ → Bool
 is_plain_text_type main sub = is_among plain_text_essences main sub
 
+-- what is safelisted besides scripts
 unfoldable pub style_and_image_essences : List (List ℕ × List ℕ)
 style_and_image_essences = (codes "text", codes "css") ∷ (codes "image", codes "svg+xml") ∷ []
 
 -- the opaque-safelisted types of the ORB proposal: scripts, style sheets and SVG
 abbrev pub is_safelisted_type : List ℕ → List ℕ → Bool
-is_safelisted_type main sub = is_javascript_type main sub || is_among style_and_image_essences main sub
+is_safelisted_type main sub =
+    is_javascript_type main sub || is_among style_and_image_essences main sub
 
 -- the opaque-blocklisted types of the ORB proposal: HTML, JSON and XML
 abbrev pub is_blocklisted_type : List ℕ → List ℕ → Bool
-is_blocklisted_type main sub = is_html_type main sub || (is_json_type main sub || is_xml_type main sub)
+is_blocklisted_type main sub =
+    is_html_type main sub || (is_json_type main sub || is_xml_type main sub)
 
 -- the opaque-blocklisted-never-sniffed types, in this project's own list
 unfoldable pub never_sniffed_essences : List (List ℕ × List ℕ)
@@ -126,12 +134,14 @@ never_sniffed_essences =
     ∷ (codes "text", codes "vtt")
     ∷ []
 
+-- a type whose bodies are blocked without a look at them
 abbrev pub is_never_sniffed_type : List ℕ → List ℕ → Bool
 is_never_sniffed_type main sub = is_among never_sniffed_essences main sub
 
+-- the types of media
 unfoldable pub media_mains : List (List ℕ)
 media_mains = codes "audio" ∷ codes "image" ∷ codes "video" ∷ []
 
--- the type alone makes it media: audio, image or video
+-- the type alone makes it media: an audio, video or image MIME type (WHATWG MIME Sniffing 4.6)
 abbrev pub is_media_type : List ℕ → Bool
 is_media_type main = list_any (λ m. bytes_eq main m) media_mains

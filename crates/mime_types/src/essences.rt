@@ -1,17 +1,13 @@
 //! The type and subtype of a text, without its parameters (WHATWG MIME Sniffing 4.4).
 //!
-//! Whether a text is the text of a MIME type hangs on these two alone: every tail behind them is some
-//! list of segments. So they are found with no walk over the parameters and no memory.
-ghost use Rattle.std.specs.Prelude.{◌≡◌, ◌==◌, not, ◌∷◌, ◌++◌, IfSome, IfNone};
-ghost use Rattle.std.specs.List.{list_all};
+//! Whether a text is the text of a MIME type hangs on these two alone: every tail behind them is
+//! some list of segments. So they are found with no walk over the parameters and no memory.
+ghost use Rattle.std.specs.Prelude.{IfSome, IfNone};
 ghost use Rattle.mime_types.specs.Mime.{IsEssence, WritesEssence, HasNoMime, HasOneRecord};
-ghost use Rattle.mime_types.specs.Mime.{is_token as is_token_text};
-ghost use Rattle.mime_types.specs.Spans.{Spans};
-ghost use Rattle.orb_bytes.specs.Bytes.{AllPass, is_http_whitespace, is_token_byte};
-ghost use Rattle.orb_bytes.specs.Trim.{without_trailing};
+ghost use Rattle.mime_types.specs.Reading.{ReadsEssence};
 
-use memchr::memchr;
-use orb_bytes::{is_http_ws, is_token, trim_http_ws};
+use crate::scanning::{is_nonempty_token, split_before, split_once, trim_http_ws_end};
+use orb_bytes::trim_http_ws;
 
 /// The type and subtype of a text, as the text writes them: their letters have either case.
 #[derive(Clone, Copy, Debug, PartialEq, Eq)]
@@ -29,11 +25,21 @@ pub fn essence_of(text: &[u8]) -> Option<Essence<'_>>
     ensures written { IfSome result (λ e. WritesEssence text.now e.main.now e.sub.now) }
     ensures none { IfNone result (HasNoMime text.now) }
 {
+    let (main, sub, _) = split_essence(text)?;
+    Some(Essence { main, sub })
+}
+
+/// The type and subtype that the text writes, and its tail: the empty one, or all from the first
+/// `;` on.
+pub(crate) fn split_essence(text: &[u8]) -> Option<(&[u8], &[u8], &[u8])>
+    ensures found { IfSome result (λ x. ReadsEssence text.now x.0.now x.1.now x.2.now) }
+    ensures none { IfNone result (HasNoMime text.now) }
+{
     let (main, behind) = split_once(b'/', trim_http_ws(text))?;
-    let (field, _) = split_before(b';', behind);
+    let (field, tail) = split_before(b';', behind);
     let sub = trim_http_ws_end(field);
     if is_nonempty_token(main) && is_nonempty_token(sub) {
-        Some(Essence { main, sub })
+        Some((main, sub, tail))
     } else {
         None
     }
@@ -43,51 +49,6 @@ pub fn essence_of(text: &[u8]) -> Option<Essence<'_>>
 pub fn one_record()
     ensures { HasOneRecord }
 {}
-
-/// The text before the first such byte, and behind it; `None` exactly where there is none.
-fn split_once(stop: u8, text: &[u8]) -> Option<(&[u8], &[u8])>
-    ensures cut { IfSome result (λ x. text.now ≡ x.0.now ++ (stop ∷ x.1.now)) }
-    ensures first { IfSome result (λ x. AllPass (λ b. not (b == stop)) x.0.now) }
-    ensures none { IfNone result (AllPass (λ b. not (b == stop)) text.now) }
-{
-    let place = memchr(stop, text)?;
-    Some((&text[..place], &text[place + 1..]))
-}
-
-/// The text up to the first such byte, and from it on.
-fn split_before(stop: u8, text: &[u8]) -> (&[u8], &[u8])
-    ensures { Spans (λ b. not (b == stop)) text.now result.0.now result.1.now }
-{
-    let place = memchr(stop, text).unwrap_or(text.len());
-    text.split_at(place)
-}
-
-/// The text without HTTP whitespace at its end.
-fn trim_http_ws_end(text: &[u8]) -> &[u8]
-    ensures { result.now ≡ without_trailing is_http_whitespace text.now }
-{
-    let mut rest = text;
-    'trailing: while let [others @ .., last] = rest
-        && is_http_ws(*last)
-    {
-        rest = others;
-    }
-    rest
-}
-
-/// Whether the text is an HTTP token code point or more of them.
-fn is_nonempty_token(text: &[u8]) -> bool
-    ensures { result ≡ is_token_text text.now }
-{
-    !text.is_empty() && are_token_bytes(text)
-}
-
-/// Whether each byte is an HTTP token code point.
-fn are_token_bytes(text: &[u8]) -> bool
-    ensures { result ≡ list_all is_token_byte text.now }
-{
-    text.iter().all(|b| is_token(*b))
-}
 
 #[cfg(test)]
 mod tests {

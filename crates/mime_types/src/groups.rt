@@ -1,8 +1,8 @@
 //! The groups of MIME types that a filter asks for, by type and subtype alone.
 //!
-//! Scripts, JSON, XML, HTML and media are the groups of WHATWG MIME Sniffing 4.6; what is safelisted
-//! and blocklisted is named so by the ORB proposal; the list of the types that are never sniffed is this
-//! project's own. Each comparison ignores the case of ASCII letters.
+//! Scripts, JSON, XML, HTML and media are the groups of WHATWG MIME Sniffing 4.6; what is
+//! safelisted and blocklisted is named so by the ORB proposal; the list of the types that are
+//! never sniffed is this project's own. Each comparison ignores the case of ASCII letters.
 ghost use Rattle.std.specs.Prelude.{◌≡◌, ◌&&◌};
 ghost use Rattle.std.specs.List.{list_any};
 ghost use Rattle.std.specs.Str.{str_to_ascii_lowercase};
@@ -146,7 +146,8 @@ pub fn is_safelisted(e: &Essence) -> bool
     is_javascript(e) || is_among(e, &[("text", "css"), ("image", "svg+xml")])
 }
 
-/// Whether the ORB proposal blocklists it: HTML, JSON or XML. `image/svg+xml` is safelisted as well.
+/// Whether the ORB proposal blocklists it: HTML, JSON or XML. `image/svg+xml` is safelisted as
+/// well.
 pub fn is_blocklisted(e: &Essence) -> bool
     ensures { result ≡ is_blocklisted_type (main_of e.now) (sub_of e.now) }
 {
@@ -182,7 +183,8 @@ fn is_among(e: &Essence, essences: &[(&str, &str)]) -> bool
 
 /// Whether the text ends in the suffix, but for the case of its letters.
 fn ends_in_ignoring_case(text: &[u8], suffix: &[u8]) -> bool
-    ensures { result ≡ ends_in (str_to_ascii_lowercase suffix.now) (str_to_ascii_lowercase text.now) }
+    ensures { result
+        ≡ ends_in (str_to_ascii_lowercase suffix.now) (str_to_ascii_lowercase text.now) }
 {
     let start = text.len().saturating_sub(suffix.len());
     eq_ignore_case(text.split_at(start).1, suffix)

@@ -1,38 +1,10 @@
-use Rattle.std.proofs.Common.{sym, ◌∙◌, inl, inr}
-use Rattle.mime_types.proofs.EssenceLemmas.{needs_slash, essence_only, essence_cut, essence_written, essence_none}
+use Rattle.mime_types.proofs.EssenceLemmas.{essence_cut, essence_written}
 use Rattle.mime_types.proofs.essences.essence_of.Goals as goal
-use Rattle.mime_types.proofs.essences.essence_of.Goals.{else-is_nonempty_token-via-then-is_nonempty_token+else-is_nonempty_token-2, else-is_nonempty_token-via-else-is_nonempty_token}
 
-pub returns-in_err-main-clause-none : goal.returns-in_err-main-clause-none
-returns-in_err-main-clause-none c =
-    rw c.from_residual.ensures
-    (needs_slash c.args.text.now c.trim_http_ws.result.now c.trim_http_ws.ensures c.in_err-main.ensures.none)
+pub returns-clause-written : goal.returns-clause-written
+returns-clause-written c =
+    essence_cut c.args.text.now c.in_ok-main.main.now c.in_ok-main.sub.now c.in_ok-main.field-0-2.now c.in_ok-main.ensures.found
 
-pub returns-then-is_nonempty_token-2-clause-written :
-    goal.returns-then-is_nonempty_token-2-clause-written
-returns-then-is_nonempty_token-2-clause-written c =
-    essence_cut c.args.text.now c.trim_http_ws.result.now c.in_ok-main.main.now c.in_ok-main.behind.now
-    c.split_before.result.0.now c.split_before.result.1.now c.trim_http_ws_end-sub.result.now
-    c.trim_http_ws.ensures c.in_ok-main.ensures.cut c.split_before.ensures c.trim_http_ws_end-sub.ensures
-    (sym c.is_nonempty_token.ensures ∙ c.if-is_nonempty_token.true)
-    (sym c.is_nonempty_token-then-is_nonempty_token.ensures ∙ c.if-is_nonempty_token-2.true)
-
-pub returns-then-is_nonempty_token-2-clause-found :
-    goal.returns-then-is_nonempty_token-2-clause-found
-returns-then-is_nonempty_token-2-clause-found c =
-    essence_written c.args.text.now c.in_ok-main.main.now c.trim_http_ws_end-sub.result.now
-    (returns-then-is_nonempty_token-2-clause-written c)
-
-pub returns-else-is_nonempty_token-clause-none : goal.returns-else-is_nonempty_token-clause-none
-returns-else-is_nonempty_token-clause-none c =
-    essence_none c.args.text.now c.in_ok-main.main.now c.trim_http_ws_end-sub.result.now
-    (λ cut is. essence_only c.args.text.now c.trim_http_ws.result.now c.in_ok-main.main.now c.in_ok-main.behind.now
-    c.split_before.result.0.now c.split_before.result.1.now c.trim_http_ws_end-sub.result.now cut is
-    c.trim_http_ws.ensures c.in_ok-main.ensures.cut c.in_ok-main.ensures.first c.split_before.ensures
-    c.trim_http_ws_end-sub.ensures)
-    (elim c.else-is_nonempty_token.branch [
-      | else-is_nonempty_token-via-then-is_nonempty_token+else-is_nonempty_token-2 w ↦
-          inr (sym w.is_nonempty_token-then-is_nonempty_token.ensures ∙ w.if-is_nonempty_token-2.false)
-      | else-is_nonempty_token-via-else-is_nonempty_token w ↦
-          inl (sym c.is_nonempty_token.ensures ∙ w.if-is_nonempty_token.false)
-    ])
+pub returns-clause-found : goal.returns-clause-found
+returns-clause-found c =
+    essence_written c.args.text.now c.in_ok-main.main.now c.in_ok-main.sub.now (returns-clause-written c)

@@ -1,7 +1,7 @@
 use Rattle.std.proofs.Common.{arith}
 use Rattle.memchr.specs.Find.{is_byte}
 use Rattle.mime_types.proofs.SpanLemmas.{front_fails, all_fail}
-use Rattle.mime_types.proofs.essences.split_once.Goals as goal
+use Rattle.mime_types.proofs.scanning.split_once.Goals as goal
 
 pub returns-in_err-place-clause-none : goal.returns-in_err-place-clause-none
 returns-in_err-place-clause-none c =

@@ -1,6 +1,6 @@
 use Rattle.std.proofs.Common.{sym, ◌∙◌}
 use Rattle.mime_types.proofs.EssenceLemmas.{token_by_length}
-use Rattle.mime_types.proofs.essences.is_nonempty_token.Goals as goal
+use Rattle.mime_types.proofs.scanning.is_nonempty_token.Goals as goal
 
 pub returns-then-not-is_empty : goal.returns-then-not-is_empty
 returns-then-not-is_empty c =

@@ -1,6 +1,6 @@
 use Rattle.memchr.specs.Find.{is_byte}
 use Rattle.mime_types.proofs.SpanLemmas.{first_byte_spans}
-use Rattle.mime_types.proofs.essences.split_before.Goals as goal
+use Rattle.mime_types.proofs.scanning.split_before.Goals as goal
 
 pub returns : goal.returns
 returns c =

@@ -1,7 +1,7 @@
 use Rattle.std.proofs.Common.{◌≡◌, length}
 use Rattle.orb_bytes.specs.Bytes.{is_http_whitespace}
 use Rattle.orb_bytes.specs.Trim.{without_trailing}
-use Rattle.mime_types.proofs.essences.trim_http_ws_end.Given as goal
+use Rattle.mime_types.proofs.scanning.trim_http_ws_end.Given as goal
 
 abbrev pub invariant-trailing : goal.invariant-trailing
 invariant-trailing l =

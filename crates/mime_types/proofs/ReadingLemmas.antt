@@ -1,0 +1,174 @@
+-- How a reader of a text goes on.
+use Rattle.std.proofs.Common.{◌≡◌, ◌≢◌, ℕ, Bool, true, false, not, nat_eq, ◌&&◌, ◌||◌, List, [], ◌∷◌, ◌++◌, length, map, refl, sym, ap, ◌∙◌, append_assoc, append-nil, ne_eqb, arith, if◌then◌else◌}
+use Rattle.std.specs.List.{list_all, flat_map}
+use Rattle.std.proofs.lemmas.Bool.{and_from}
+use Rattle.std.proofs.lemmas.Grind.{flat_map-append}
+use Rattle.std.proofs.lemmas.List.{map-append}
+use Rattle.std.proofs.lemmas.List.Folds.{list_all-append}
+use Rattle.orb_bytes.specs.Bytes.{is_http_whitespace}
+use Rattle.orb_bytes.specs.Trim.{without_leading}
+use Rattle.mime_types.specs.Spans.{begins_outside, Spans}
+use Rattle.mime_types.specs.Mime.{is_empty, QuotedUnit, itself, print_unit, is_unit, unit_value, Close, by_quote, by_end, by_backslash, print_close, is_at_end, Assigned, nothing, quoted, plain, is_assigned, is_last, is_no_semicolon, is_name_byte, Segment, is_segment, print_segment, print_segments, are_segments}
+use Rattle.mime_types.specs.Reading.{ReadsQuoted, ReadsAssigned, ReadsSegment}
+use Rattle.mime_types.proofs.TrailingLemmas.{leading_of, without_leading_begins}
+use Rattle.mime_types.proofs.CutLemmas.{is_semicolon}
+
+-- the units that are read of a text, their bytes, and the rest
+abbrev pub ReadsUnits : List ℕ → List ℕ → List ℕ → Type 0
+ReadsUnits text value rest =
+    (units : List QuotedUnit) × (list_all is_unit units ≡ true)
+    × (text ≡ flat_map print_unit units ++ rest) × (value ≡ map unit_value units)
+
+-- one unit more
+pub more_units : (text value rest value' rest' : List ℕ) (unit : QuotedUnit) → ReadsUnits text value rest
+    → is_unit unit ≡ true → rest ≡ print_unit unit ++ rest' → value' ≡ value ++ unit_value unit ∷ []
+    → ReadsUnits text value' rest'
+more_units text value rest value' rest' unit reads is cut grown =
+    let units = reads.0 in (
+      units ++ unit ∷ [],
+      list_all-append is_unit units (unit ∷ []) ∙ and_from (list_all is_unit units) (is_unit unit && true) reads.1 (and_from (is_unit unit) true is refl),
+      reads.2 ∙ ap (λ back. flat_map print_unit units ++ back) cut
+          ∙ ap (λ back. flat_map print_unit units ++ (back ++ rest')) (sym (append-nil (print_unit unit)))
+          ∙ sym (append_assoc (flat_map print_unit units) (print_unit unit ++ []) rest')
+          ∙ ap (λ front. front ++ rest') (sym (flat_map-append print_unit units (unit ∷ []))),
+      grown ∙ ap (λ front. front ++ unit_value unit ∷ []) reads.3 ∙ sym (map-append unit_value units (unit ∷ [])),
+    )
+
+-- a unit in front of a quoted string's others
+pub reads_unit : (text : List ℕ) (unit : QuotedUnit) (rest : List ℕ) (units : List QuotedUnit) (c : Close) (behind : List ℕ)
+    → is_unit unit ≡ true → text ≡ print_unit unit ++ rest → ReadsQuoted rest units c behind
+    → ReadsQuoted text (unit ∷ units) c behind
+reads_unit text unit rest units c behind is cut reads = record {
+  are = and_from (is_unit unit) (list_all is_unit units) is reads.are;
+  last = reads.last;
+  whole = cut ∙ ap (λ back. print_unit unit ++ back) reads.whole
+      ∙ sym (append_assoc (print_unit unit) (flat_map print_unit units) (print_close c ++ behind));
+}
+
+-- a byte that is neither `"` nor `\`
+pub unit_itself : (b : ℕ) → b ≢ 34 → b ≢ 92 → is_unit (itself b) ≡ true
+unit_itself b quote slash =
+    let no_quote = ne_eqb b 34 quote in
+    let no_slash = ne_eqb b 92 slash in
+    rw (no_quote, no_slash) refl
+
+-- a front of a text begins as the text does
+pub front_begins : (test : ℕ → Bool) (front back : List ℕ) → begins_outside test (front ++ back) ≡ true
+    → begins_outside test front ≡ true
+front_begins test [] back begins = refl
+front_begins test (b ∷ front) back begins = begins
+
+-- nothing is assigned where a name ends and no `=` stands
+pub reads_nothing : (text : List ℕ) → begins_outside is_name_byte text ≡ true
+    → begins_outside (λ b. nat_eq b 61) text ≡ true → ReadsAssigned text nothing text
+reads_nothing text ends other = record {
+  valid = refl;
+  last = λ never. absurd (cc);
+  begins = semicolon_left text ends other;
+  whole = refl;
+} where
+  left : (semicolon equals : Bool) → not (not (semicolon || equals)) ≡ true → not equals ≡ true → not (not semicolon) ≡ true
+  left true equals ends other = refl
+  left false true ends other = absurd (cc)
+  left false false ends other = ends
+
+  semicolon_left : (text : List ℕ) → begins_outside is_name_byte text ≡ true → begins_outside (λ b. nat_eq b 61) text ≡ true
+      → begins_outside is_no_semicolon text ≡ true
+  semicolon_left [] ends other = refl
+  semicolon_left (b ∷ text) ends other = left (nat_eq b 59) (nat_eq b 61) ends other
+
+pub reads_plain : (text behind field rest : List ℕ) → text ≡ 61 ∷ behind
+    → begins_outside (λ b. nat_eq b 34) behind ≡ true → Spans is_no_semicolon behind field rest
+    → ReadsAssigned text (plain field) rest
+reads_plain text behind field rest equals unquoted spans =
+    let begins : begins_outside (λ b. nat_eq b 34) (field ++ rest) ≡ true =
+    ap (begins_outside (λ b. nat_eq b 34)) (sym spans.whole) ∙ unquoted in
+    record {
+      valid = and_from (begins_outside (λ b. nat_eq b 34) field) (list_all is_no_semicolon field)
+          (front_begins (λ b. nat_eq b 34) field rest begins) spans.inside;
+      last = λ never. absurd (cc);
+      begins = spans.stops;
+      whole = equals ∙ ap (λ back. 61 ∷ back) spans.whole;
+    }
+
+none_in : (front back : List ℕ) → front ++ back ≡ [] → (is_empty front ≡ true) × (back ≡ [])
+none_in [] back none = (refl, none)
+none_in (b ∷ front) back none = absurd (cc)
+
+-- what is ignored behind a quoted string
+ignored_valid : (c : Close) (behind ignored rest : List ℕ) → (is_at_end c ≡ true → behind ≡ [])
+    → Spans is_no_semicolon behind ignored rest
+    → ((if is_at_end c then is_empty ignored else list_all is_no_semicolon ignored) ≡ true) × (is_at_end c ≡ true → rest ≡ [])
+ignored_valid by_quote behind ignored rest last spans = (spans.inside, λ never. absurd (cc))
+ignored_valid by_end behind ignored rest last spans =
+    let none = none_in ignored rest (sym spans.whole ∙ last refl) in (none.0, λ is. none.1)
+ignored_valid by_backslash behind ignored rest last spans =
+    let none = none_in ignored rest (sym spans.whole ∙ last refl) in (none.0, λ is. none.1)
+
+pub reads_string : (text inner string behind ignored rest : List ℕ) (units : List QuotedUnit) (c : Close)
+    → text ≡ 61 ∷ inner → inner ≡ 34 ∷ string → ReadsQuoted string units c behind
+    → Spans is_no_semicolon behind ignored rest → ReadsAssigned text (quoted units c ignored) rest
+reads_string text inner string behind ignored rest units c equals quote reads spans =
+    let end = ignored_valid c behind ignored rest reads.last spans in
+    record {
+      valid = and_from (list_all is_unit units) (if is_at_end c then is_empty ignored else list_all is_no_semicolon ignored) reads.are end.0;
+      last = end.1;
+      begins = spans.stops;
+      whole = equals ∙ ap (λ back. 61 ∷ back) (quote ∙ ap (λ back. 34 ∷ back) (reads.whole
+          ∙ ap (λ back. flat_map print_unit units ++ (print_close c ++ back)) spans.whole ∙ simp append_assoc));
+    }
+
+-- the segment that its parts make
+pub reads_segment : (text named name behind rest : List ℕ) (assigned : Assigned)
+    → named ≡ without_leading is_http_whitespace text → Spans is_name_byte named name behind
+    → ReadsAssigned behind assigned rest
+    → (space : List ℕ) × ReadsSegment (59 ∷ text) (record { space = space; name = name; assigned = assigned }) rest
+reads_segment text named name behind rest assigned trim spans reads =
+    let leading = leading_of is_http_whitespace text in
+    let outside : begins_outside is_http_whitespace (name ++ behind) ≡ true =
+    ap (begins_outside is_http_whitespace) (sym spans.whole ∙ trim) ∙ without_leading_begins is_http_whitespace text in (
+      leading.0,
+      record {
+        valid = and_from (list_all is_http_whitespace leading.0)
+            (begins_outside is_http_whitespace name && (list_all is_name_byte name && is_assigned assigned)) leading.1
+            (and_from (begins_outside is_http_whitespace name) (list_all is_name_byte name && is_assigned assigned)
+            (front_begins is_http_whitespace name behind outside)
+            (and_from (list_all is_name_byte name) (is_assigned assigned) spans.inside reads.valid));
+        last = reads.last;
+        begins = reads.begins;
+        whole = ap (λ back. 59 ∷ back) (leading.2 ∙ ap (λ back. leading.0 ++ back) (sym trim ∙ spans.whole
+            ∙ ap (λ back. name ++ back) reads.whole) ∙ simp append_assoc);
+      },
+    )
+
+-- no segments are printed as nothing
+none_printed : (ss : List Segment) → print_segments ss ≡ [] → is_empty ss ≡ true
+none_printed [] none = refl
+none_printed (s ∷ ss) none = absurd (cc)
+
+-- one that goes to the end of the text is the last
+last_alone : (last alone : Bool) → (last ≡ true → alone ≡ true) → (not last || alone) ≡ true
+last_alone true alone rule = rule refl
+last_alone false alone rule = refl
+
+-- a segment in front of others
+pub more_segments : (text rest : List ℕ) (s : Segment) (segments : List Segment) → ReadsSegment text s rest
+    → are_segments segments ≡ true → rest ≡ print_segments segments
+    → (are_segments (s ∷ segments) ≡ true) × (text ≡ print_segments (s ∷ segments))
+more_segments text rest s segments reads are whole = (
+  and_from (is_segment s) ((not (is_last s.assigned) || is_empty segments) && are_segments segments) reads.valid
+      (and_from (not (is_last s.assigned) || is_empty segments) (are_segments segments)
+      (last_alone (is_last s.assigned) (is_empty segments) (λ last. none_printed segments (sym whole ∙ reads.last last))) are),
+  reads.whole ∙ ap (λ back. print_segment s ++ back) whole,
+)
+
+-- a tail that is not empty begins with `;`
+pub semicolon_first : (rest : List ℕ) (b : ℕ) (behind : List ℕ) → begins_outside is_no_semicolon rest ≡ true
+    → rest ≡ b ∷ behind → rest ≡ 59 ∷ behind
+semicolon_first rest b behind begins cut =
+    let first = is_semicolon b behind (ap (begins_outside is_no_semicolon) (sym cut) ∙ begins) in
+    cut ∙ ap (λ e. e ∷ behind) first
+
+pub nothing_at : (rest : List ℕ) → length rest ≡ 0 → rest ≡ []
+nothing_at [] none = refl
+nothing_at (b ∷ rest) none = absurd (omega arith)

@@ -1,0 +1,49 @@
+-- What a reader of a text has found so far: a tree at the front, and the rest behind it.
+use Rattle.std.specs.Prelude.{◌≡◌, ℕ, true, ◌&&◌, not, if◌then◌else◌, List, [], ◌∷◌, ◌++◌, Option, Some, None}
+use Rattle.std.specs.List.{list_all, flat_map}
+use Rattle.orb_bytes.specs.Bytes.{AllPass, is_http_whitespace}
+use Rattle.orb_bytes.specs.Trim.{trimmed}
+use Rattle.mime_types.specs.Spans.{begins_outside}
+use Rattle.mime_types.specs.Mime.{is_token, QuotedUnit, print_unit, is_unit, Close, print_close, is_at_end, Assigned, print_assigned, is_assigned, is_last, is_no_semicolon, Segment, print_segment, is_segment, print_segments, are_segments, is_parameter, parameters_of}
+use Rattle.mime_types.specs.Records.{has_name}
+
+-- the text writes this type and subtype, and then the tail, which is empty or begins with `;`
+pub record ReadsEssence (text main sub tail : List ℕ) : Type 0 where
+  pub space : List ℕ
+  pub whole : trimmed is_http_whitespace text ≡ main ++ (47 ∷ (sub ++ (space ++ tail)))
+  pub is_main : is_token main ≡ true
+  pub is_sub : is_token sub ≡ true
+  pub is_space : AllPass is_http_whitespace space
+  pub begins : begins_outside is_no_semicolon tail ≡ true
+
+-- behind an opening quote the text is these units, what closes them, and the rest
+pub record ReadsQuoted (text : List ℕ) (units : List QuotedUnit) (close : Close) (rest : List ℕ) : Type 0 where
+  pub are : list_all is_unit units ≡ true
+  pub last : is_at_end close ≡ true → rest ≡ []
+  pub whole : text ≡ flat_map print_unit units ++ (print_close close ++ rest)
+
+-- behind a name the text is what the name is assigned, and the rest
+pub record ReadsAssigned (text : List ℕ) (assigned : Assigned) (rest : List ℕ) : Type 0 where
+  pub valid : is_assigned assigned ≡ true
+  pub last : is_last assigned ≡ true → rest ≡ []
+  pub begins : begins_outside is_no_semicolon rest ≡ true
+  pub whole : text ≡ print_assigned assigned ++ rest
+
+-- the text is the segment, and the rest
+pub record ReadsSegment (text : List ℕ) (s : Segment) (rest : List ℕ) : Type 0 where
+  pub valid : is_segment s ≡ true
+  pub last : is_last s.assigned ≡ true → rest ≡ []
+  pub begins : begins_outside is_no_semicolon rest ≡ true
+  pub whole : text ≡ print_segment s ++ rest
+
+-- the text is segments that stand for these parameters
+abbrev pub ReadsParameters : List ℕ → List (List ℕ × List ℕ) → Type 0
+ReadsParameters text pairs =
+    (segments : List Segment) × (are_segments segments ≡ true) × (text ≡ print_segments segments)
+    × (pairs ≡ parameters_of segments)
+
+-- the pairs kept so far, and one more where it is a parameter of a new name
+abbrev pub kept_with : List (List ℕ × List ℕ) → Option (List ℕ × List ℕ) → List (List ℕ × List ℕ)
+kept_with kept None = kept
+kept_with kept (Some pair) =
+    if is_parameter pair && not (has_name pair.0 kept) then kept ++ pair ∷ [] else kept

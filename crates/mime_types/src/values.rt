@@ -1,0 +1,67 @@
+//! The values of parameters (WHATWG MIME Sniffing 4.4; the quoted string of WHATWG Fetch 2.2).
+ghost use Rattle.std.specs.Prelude.{◌≡◌, true, List, option_map, IfOk};
+ghost use Rattle.mime_types.specs.Spans.{begins_outside};
+ghost use Rattle.mime_types.specs.Mime.{QuotedUnit, Close, Assigned, is_name_byte};
+ghost use Rattle.mime_types.specs.Mime.{quoted_value, assigned_value};
+ghost use Rattle.mime_types.specs.Reading.{ReadsQuoted, ReadsAssigned};
+
+use crate::scanning::{split_before, strip_byte, trim_http_ws_end};
+use std::alloc::{AllocError, Global};
+
+/// The value that a name is assigned, if any, and the text from the next `;` on.
+pub(crate) fn read_value(alloc: Global, text: &[u8]) -> Result<(Option<Vec<u8>>, &[u8]), AllocError>
+    requires { begins_outside is_name_byte text.now ≡ true }
+    ensures { IfOk result (λ x. (assigned : Assigned) × ReadsAssigned text.now assigned x.1.now
+        × (option_map (λ v. v.items) x.0 ≡ assigned_value assigned)) }
+{
+    let Some(behind) = strip_byte(b'=', text) else {
+        return Ok((None, text));
+    };
+    if let Some(string) = strip_byte(b'"', behind) {
+        let (value, behind) = read_quoted(alloc, string)?;
+        let (_, rest) = split_before(b';', behind);
+        return Ok((Some(value), rest));
+    }
+    let (field, rest) = split_before(b';', behind);
+    Ok((plain_value(alloc, field)?, rest))
+}
+
+/// The value without quotes; `None` where nothing but HTTP whitespace is there.
+fn plain_value(alloc: Global, field: &[u8]) -> Result<Option<Vec<u8>>, AllocError>
+    ensures { IfOk result
+        (λ x. option_map (λ v. v.items) x ≡ assigned_value (Assigned.plain field.now)) }
+{
+    let value = trim_http_ws_end(field);
+    if value.is_empty() {
+        return Ok(None);
+    }
+    Ok(Some(value.to_vec(alloc)?))
+}
+
+/// The value of the quoted string whose opening quote stands before the text, and what stands
+/// behind the string.
+fn read_quoted(alloc: Global, text: &[u8]) -> Result<(Vec<u8>, &[u8]), AllocError>
+    ensures { IfOk result (λ x. (units : List QuotedUnit) × (close : Close)
+        × ReadsQuoted text.now units close x.1.now × (x.0.items ≡ quoted_value units close)) }
+{
+    let mut value = Vec::new(alloc);
+    let mut rest = text;
+    'units: while let Some((first, behind)) = rest.split_first() {
+        match *first {
+            b'"' => return Ok((value, behind)),
+            b'\\' => {
+                let Some((byte, others)) = behind.split_first() else {
+                    value.push(b'\\')?;
+                    return Ok((value, behind));
+                };
+                value.push(*byte)?;
+                rest = others;
+            }
+            byte => {
+                value.push(byte)?;
+                rest = behind;
+            }
+        }
+    }
+    Ok((value, rest))
+}
