@@ -1,5 +1,6 @@
 pub mod FieldLemmas
 pub mod JoinLemmas
+pub mod UnitLemmas
 pub mod PartLemmas
 pub mod QuestionLemmas
 pub mod ExtractLemmas

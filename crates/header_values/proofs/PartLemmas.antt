@@ -8,8 +8,7 @@ use Rattle.orb_bytes.specs.Trim.{trimmed}
 use Rattle.mime_types.specs.Mime.{is_empty, QuotedUnit, itself, escaped, print_unit, is_unit, by_quote, by_end, by_backslash}
 use Rattle.std.proofs.Math.Seq.{drop-cons}
 use Rattle.std.proofs.lemmas.List.{take_more, take_all}
-use Rattle.mime_types.proofs.CutLemmas.{stops_units}
-use Rattle.mime_types.proofs.SegmentLemmas.{units_of}
+use Rattle.header_values.proofs.UnitLemmas.{stops_units, units_of}
 use Rattle.header_values.specs.declared.split.Place.{Place}
 use Rattle.header_values.specs.declared.split.Place.TheVariants.{Outside, Inside}
 use Rattle.header_values.specs.Parts.{Piece, bare, string, print_piece, is_piece, is_last, print_part, is_part, is_closed, print_parts, are_parts, IsCut, part_text, HasOneCut, after, is_cut, put_first, cut_from, cuts_left, parts_of, parts_left_of}

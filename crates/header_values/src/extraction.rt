@@ -35,8 +35,7 @@ fn last_essence(value: &[u8]) -> Option<Essence<'_>>
     ensures { IsLastEssence value.now result }
 {
     let mut last = None;
-    let mut rest = parts(value);
-    while let Some(part) = rest.next() {
+    for part in parts(value) {
         last = kept_essence(part).or(last);
     }
     last
