@@ -1,5 +1,4 @@
 pub mod RoomLemmas
 pub mod RecordingLemmas
 pub mod AnswerLemmas
-pub mod WordLemmas
 pub mod OneRecording

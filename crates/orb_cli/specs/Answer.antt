@@ -1,10 +1,10 @@
 -- What an answer of `run` says of the bytes read and written, and of the counts of faults.
-use Rattle.std.specs.Prelude.{◌≡◌, ◌⊎◌, ℕ, Bool, true, false, List, [], Option, String}
-use Rattle.std.specs.declared.alloc.Global.{Global}
+use Rattle.std.specs.Prelude.{◌≡◌, ℕ, Bool, true, false, List, [], Option, Some, None}
 use Rattle.orb_io.specs.Told.{Loses, IsAtEnd, Gains, IsPrefix, Rose}
 use Rattle.orb_cli.specs.declared.outcome.Outcome.{Outcome}
 use Rattle.orb_cli.specs.declared.outcome.Outcome.TheVariants as outcomes
-use Rattle.orb_cli.specs.Words.{Taken}
+use Rattle.orb_cli.specs.Words.{Asked, Filter, Mime}
+use Rattle.orb_cli.specs.MimeLine.{IsMimeLine}
 use Rattle.orb_cli.specs.Recording as recording
 use Rattle.orb_cli.specs.Recording.{End, IsRecording}
 
@@ -20,25 +20,37 @@ AtEnd _ P = ⊥
 abbrev pub Untouched : (read wrote : List ℕ) → Type 0
 Untouched read wrote = (read ≡ []) × (wrote ≡ [])
 
--- what the answer to words that are taken says
-abbrev pub IsAnswer : (read : List ℕ) (ended : Bool) (wrote : List ℕ) → Outcome → Type 0
-IsAnswer read ended wrote outcomes.Usage = ⊥
-IsAnswer read ended wrote outcomes.ReadFault = (ended ≡ false) × (wrote ≡ [])
-IsAnswer read ended wrote outcomes.WriteFault =
+-- what an answer to `filter` says
+abbrev pub IsFilterAnswer : (read : List ℕ) (ended : Bool) (wrote : List ℕ) → Outcome → Type 0
+IsFilterAnswer read ended wrote outcomes.Usage = ⊥
+IsFilterAnswer read ended wrote outcomes.ReadFault = (ended ≡ false) × (wrote ≡ [])
+IsFilterAnswer read ended wrote outcomes.WriteFault =
     (out : List ℕ) × (stop : End) × IsRecording read ended out stop × IsPrefix wrote out
-IsAnswer read ended wrote outcomes.NoMemory = Untouched read wrote
-IsAnswer read ended wrote answer = AtEnd answer (IsRecording read ended wrote)
+IsFilterAnswer read ended wrote outcomes.NoMemory = Untouched read wrote
+IsFilterAnswer read ended wrote answer = AtEnd answer (IsRecording read ended wrote)
+
+-- what an answer to `mime` with this text says: nothing is ever read
+abbrev pub IsMimeAnswer : (text read wrote : List ℕ) → Outcome → Type 0
+IsMimeAnswer text read wrote outcomes.Done = (read ≡ []) × IsMimeLine text wrote
+IsMimeAnswer text read wrote outcomes.WriteFault =
+    (read ≡ []) × (line : List ℕ) × IsMimeLine text line × IsPrefix wrote line
+IsMimeAnswer text read wrote outcomes.NoMemory = Untouched read wrote
+IsMimeAnswer text read wrote _ = ⊥
+
+-- what an answer to words that are taken says, by what they ask for
+abbrev pub IsAnswer : Asked → (read : List ℕ) (ended : Bool) (wrote : List ℕ) → Outcome → Type 0
+IsAnswer Filter read ended wrote answer = IsFilterAnswer read ended wrote answer
+IsAnswer (Mime text) read ended wrote answer = IsMimeAnswer text read wrote answer
 
 -- what the answer says: `Usage` to words that are not taken, and to no others
-abbrev pub Answers : List (String Global) → (read : List ℕ) (ended : Bool) (wrote : List ℕ) → Outcome → Type 0
-Answers words read ended wrote answer =
-    (Taken words × IsAnswer read ended wrote answer)
-    ⊎ ((¬ (Taken words)) × (answer ≡ outcomes.Usage) × Untouched read wrote)
+abbrev pub Answers : Option Asked → (read : List ℕ) (ended : Bool) (wrote : List ℕ) → Outcome → Type 0
+Answers None read ended wrote answer = (answer ≡ outcomes.Usage) × Untouched read wrote
+Answers (Some asked) read ended wrote answer = IsAnswer asked read ended wrote answer
 
 -- The bytes that the source lost and that the sink gained, whether the input has ended, and what the
 -- answer says of them. Each object tells its bytes or it doesn't.
 pub record Ran
-    (words : List (String Global)) (left left' put put' : Option (List ℕ)) (size size' : Option ℕ)
+    (asked : Option Asked) (left left' put put' : Option (List ℕ)) (size size' : Option ℕ)
     (answer : Outcome) : Type 0 where
   pub read : List ℕ
   pub wrote : List ℕ
@@ -46,7 +58,7 @@ pub record Ran
   pub lost : Loses left left' read
   pub gained : Gains put put' size size' wrote
   pub at_end : ended ≡ true → IsAtEnd left'
-  pub answers : Answers words read ended wrote answer
+  pub answers : Answers asked read ended wrote answer
 
 -- A read fault comes only where the source's count rose, a write fault only where the sink's did.
 -- Every other count is as it was.

@@ -6,8 +6,11 @@
 //! written and of the faults, and `Report` the status and the line.
 #![tactic(auto)]
 
+mod commands;
 mod filling;
+mod filtering;
 mod judging;
+mod mime_word;
 mod outcome;
 mod report;
 mod settled;
@@ -15,6 +18,7 @@ mod settled;
 mod tests;
 mod top;
 mod typing;
+mod writing;
 
 pub use outcome::Outcome;
 pub use report::outcome_line;

@@ -3,7 +3,6 @@ use crate::{Outcome, outcome_line, run};
 use http_exchange::BadKind;
 use orb_io::{MemorySink, MemorySource};
 use std::alloc::Global;
-use std::process::Abort;
 use std::test::Fail;
 
 const REQUEST: &[u8] = b"GET / HTTP/1.1\r\nSec-Fetch-Mode: no-cors\r\n\r\n";
@@ -27,16 +26,18 @@ struct Faults<'f> {
     pushes: &'f [u64],
 }
 
-/// What `run` answers of one word and of an input in such pieces, and what it writes.
+/// What `run` answers of such words and of an input in such pieces, and what it writes.
 fn run_in_memory(
     alloc: Global,
-    word: &str,
+    texts: &[&str],
     input: Vec<u8>,
     piece: usize,
     faults: Faults<'_>,
 ) -> Result<(Outcome, MemorySink), Fail> {
     let mut words = Vec::new(alloc);
-    words.push(String::from_str(alloc, word)?)?;
+    for text in texts {
+        words.push(String::from_str(alloc, text)?)?;
+    }
     let mut source = MemorySource::new(input, piece.max(1), faults.pulls.to_vec(alloc)?);
     let mut sink = MemorySink::open(alloc, 1 << 20, faults.pushes.to_vec(alloc)?)?;
     let outcome = run(alloc, &words, &mut source, &mut sink);
@@ -77,7 +78,7 @@ fn recordings_give_what_is_owed_in_every_cutting(rt: HostRuntime) -> Result<(), 
     for (front, back, owed, wrote) in cases {
         for piece in [1, 50, 57, 1000] {
             let input = joined(rt.alloc(), front, back)?;
-            let (outcome, sink) = run_in_memory(rt.alloc(), "filter", input, piece, none)?;
+            let (outcome, sink) = run_in_memory(rt.alloc(), &["filter"], input, piece, none)?;
             assert_eq!(rt; outcome, owed);
             assert!(rt; sink.bytes() == wrote, "{owed:?}");
         }
@@ -96,18 +97,62 @@ fn faults_and_words_are_told(rt: HostRuntime) -> Result<(), Fail> {
     ];
     for (word, pulls, pushes, owed) in cases {
         let input = joined(rt.alloc(), REQUEST, ALLOWED)?;
-        let (outcome, sink) = run_in_memory(rt.alloc(), word, input, 50, Faults { pulls, pushes })?;
+        let (outcome, sink) = run_in_memory(
+            rt.alloc(),
+            &[word],
+            input,
+            50,
+            Faults { pulls, pushes },
+        )?;
         assert_eq!(rt; outcome, owed);
         assert!(rt; sink.bytes().is_empty(), "{word} {owed:?}");
     }
-    let input = joined(rt.alloc(), REQUEST, ALLOWED)?;
-    let mut source = MemorySource::new(input, 50, Vec::new(rt.alloc()));
-    let mut sink = MemorySink::open(rt.alloc(), 100, Vec::new(rt.alloc()))?;
-    let no_words = Vec::new(rt.alloc());
-    assert_eq!(rt;
-        run(rt.alloc(), &no_words, &mut source, &mut sink),
-        Outcome::Usage
-    );
+    Ok(())
+}
+
+/// The answer to words that read nothing, and what it writes.
+fn run_words(alloc: Global, texts: &[&str]) -> Result<(Outcome, MemorySink), Fail> {
+    let none = Faults {
+        pulls: &[],
+        pushes: &[],
+    };
+    run_in_memory(alloc, texts, joined(alloc, REQUEST, ALLOWED)?, 1, none)
+}
+
+#[test]
+fn other_words_are_refused(rt: HostRuntime) -> Result<(), Fail> {
+    let answers = [
+        run_words(rt.alloc(), &[])?.0,
+        run_words(rt.alloc(), &["filter", "x"])?.0,
+        run_words(rt.alloc(), &["mime"])?.0,
+        run_words(rt.alloc(), &["mime", "-a/b"])?.0,
+        run_words(rt.alloc(), &["mime", "a/b", "c/d"])?.0,
+        run_words(rt.alloc(), &["serve"])?.0,
+    ];
+    for answer in answers {
+        assert_eq!(rt; answer, Outcome::Usage);
+    }
+    Ok(())
+}
+
+#[test]
+fn mime_writes_a_line(rt: HostRuntime) -> Result<(), Fail> {
+    let cases: [(&str, &[u8]); 6] = [
+        ("text/plain;a=\"\\\"\";a=2;b=", b"text/plain;a=\"\\\"\"\n"),
+        (
+            "TEXT/HTML;Charset=\"utf-8\" ;x=1 2",
+            b"text/html;charset=utf-8;x=\"1 2\"\n",
+        ),
+        ("text/plain;a=\"b;c\"", b"text/plain;a=\"b;c\"\n"),
+        ("a/b;c=\"d\\", b"a/b;c=\"d\\\\\"\n"),
+        ("text", b"failure\n"),
+        ("", b"failure\n"),
+    ];
+    for (text, line) in cases {
+        let (outcome, sink) = run_words(rt.alloc(), &["mime", text])?;
+        assert_eq!(rt; outcome, Outcome::Done);
+        assert!(rt; sink.bytes() == line, "{text}");
+    }
     Ok(())
 }
 

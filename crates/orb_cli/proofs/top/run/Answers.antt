@@ -1,19 +1,41 @@
-use Rattle.std.proofs.Common.{◌≡◌, true, false, [], refl, inr, arith}
+use Rattle.std.proofs.Common.{◌≡◌, true, false, [], Option, None, Some, refl, sym, subst}
 use Rattle.orb_io.proofs.ToldLemmas.{Loses-none, Gains-none}
-use Rattle.orb_cli.specs.Recording.{recording_limit}
+use Rattle.orb_cli.specs.declared.outcome.Outcome.TheVariants.{Usage}
+use Rattle.orb_cli.specs.Words.{Asked, Mime}
+use Rattle.orb_cli.specs.Answer.{Ran}
 use Rattle.orb_cli.proofs.top.run.Goals as goal
 
-pub returns-then-not-is_taken-clause-ran : goal.returns-then-not-is_taken-clause-ran
-returns-then-not-is_taken-clause-ran g c = record {
-  read = [];
-  wrote = [];
-  ended = false;
-  lost = Loses-none _;
-  gained = Gains-none _ _ (g.met.O.Sink.number_fits c.args.output.now);
-  at_end = λ is. absurd (let no : false ≡ true = is in cc);
-  answers = inr (λ taken. (let no : false ≡ true = c.if-not-is_taken.ensures.1 taken in cc), refl, (refl, refl));
-}
+pub returns-in-None-clause-ran : goal.returns-in-None-clause-ran
+returns-in-None-clause-ran g c =
+    let left = g.I.Source.left c.args.input.now in
+    let put = g.O.Sink.put c.args.output.now in
+    let size = g.O.Sink.size c.args.output.now in
+    let Answered : Option Asked → Type 0 = λ asked. Ran asked left left put put size size Usage in
+    subst Answered (sym c.in-None.ensures) (record {
+      read = [];
+      wrote = [];
+      ended = false;
+      lost = Loses-none left;
+      gained = Gains-none put size (g.met.O.Sink.number_fits c.args.output.now);
+      at_end = λ is. absurd (let no : false ≡ true = is in cc);
+      answers = (refl, (refl, refl));
+    })
 
-pub filter-requires : goal.filter-requires
-unfolding recording_limit
-filter-requires g c = omega (arith, c.in-Ok.ensures, c.as_mut_slice.ensures.len)
+pub returns-in-Some-Mime-clause-ran : goal.returns-in-Some-Mime-clause-ran
+returns-in-Some-Mime-clause-ran g c =
+    let left = g.I.Source.left c.args.input.now in
+    let written = c.mime.ensures.wrote in
+    let Answered : Option Asked → Type 0 = λ asked. Ran asked left left (g.O.Sink.put c.args.output.now)
+    (g.O.Sink.put c.mime.new.output) (g.O.Sink.size c.args.output.now) (g.O.Sink.size c.mime.new.output) c.mime.result in
+    subst Answered (sym (rw c.in-Some-Mime.field-0-is at c.in-Some-Mime.ensures)) (record {
+      read = [];
+      wrote = written.0;
+      ended = false;
+      lost = Loses-none left;
+      gained = written.1;
+      at_end = λ is. absurd (let no : false ≡ true = is in cc);
+      answers = written.2;
+    })
+
+pub returns-in-Some-Mime-clause-causes : goal.returns-in-Some-Mime-clause-causes
+returns-in-Some-Mime-clause-causes g c = c.mime.ensures.causes (g.I.Source.faults c.args.input.now)

@@ -3,7 +3,7 @@ use Rattle.std.proofs.lemmas.Bool.{eqb-true}
 use Rattle.std.proofs.lemmas.List.{nil_from_length}
 use Rattle.orb_io.specs.Told.{Gains}
 use Rattle.orb_io.proofs.ToldLemmas.{Gains-none}
-use Rattle.orb_cli.proofs.top.write.Goals as goal
+use Rattle.orb_cli.proofs.writing.write.Goals as goal
 
 pub returns-then-is_empty-clause-bytes : goal.returns-then-is_empty-clause-bytes
 returns-then-is_empty-clause-bytes g c =
