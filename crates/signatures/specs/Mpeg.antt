@@ -51,7 +51,7 @@ sample_rate version index =
     slice_index (if version == 0x18 then version_1_sample_rates
     else if version == 0x10 then version_2_sample_rates else version_2_5_sample_rates) index
 
--- an eighth of a frame's samples, for each kilobit
+-- an eighth of a frame's samples, 1,152 in version 1 and else 576, times the bits of a kilobit
 abbrev pub scale_of : ℕ → ℕ
 scale_of version = if version == 0x18 then 144000 else 72000
 

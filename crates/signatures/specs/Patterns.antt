@@ -21,7 +21,8 @@ sniffed_part skip window = if skip then without_leading is_whitespace_byte windo
 abbrev pub is_match : List ℕ → List ℕ → Bool → List ℕ → Bool
 is_match bytes mask skip window = begins_masked bytes mask (sniffed_part skip window)
 
--- the same, said of each place of the pattern
+-- the same, said of each place of the pattern: the sniffed part has a byte there, and that byte under
+-- the mask is the pattern's
 pub record MatchesByPlace (bytes mask : List ℕ) (skip : Bool) (window : List ℕ) : Type 0 where
   pub long : length bytes ≤ length (sniffed_part skip window)
   pub each : (k : ℕ) → k < length bytes

@@ -1,4 +1,6 @@
 //! The table of images (WHATWG MIME Sniffing 6.1).
+//!
+//! The table is a `const`: a `static` can't hold a struct with a ghost field.
 ghost use Rattle.std.specs.Prelude.{◌≡◌};
 ghost use Rattle.signatures.specs.Rows.{image_of};
 

@@ -1,4 +1,6 @@
 //! The table of audio and video (WHATWG MIME Sniffing 6.2), and the signatures behind it.
+//!
+//! The table is a `const`: a `static` can't hold a struct with a ghost field.
 ghost use Rattle.std.specs.Prelude.{◌≡◌};
 ghost use Rattle.signatures.specs.Rows.{media_of};
 

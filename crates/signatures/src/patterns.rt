@@ -1,6 +1,5 @@
 //! Patterns of bytes under a mask (WHATWG MIME Sniffing 6).
 ghost use Rattle.std.specs.Prelude.{◌≡◌, length, drop, find};
-ghost use Rattle.std.specs.List.{list_all};
 ghost use Rattle.std.specs.Option.{option_map};
 ghost use Rattle.orb_bytes.specs.Bytes.{is_whitespace_byte};
 ghost use Rattle.orb_bytes.specs.Trim.{without_leading};
