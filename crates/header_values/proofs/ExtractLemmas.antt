@@ -34,7 +34,7 @@ pub one_extracted : (fields : List (List ℕ × List ℕ)) → StatesOne fields
 one_extracted fields a b of_a of_b =
     of_a.2 ∙ ap (λ records. extracted_of (kept_of records)) (same_records _ of_a.0 of_b.0 of_a.1 of_b.1) ∙ sym of_b.2
 
-HaveRecords-append : (texts : List (List ℕ)) (records : List (Option Mime)) (texts' : List (List ℕ)) (records' : List (Option Mime))
+pub HaveRecords-append : (texts : List (List ℕ)) (records : List (Option Mime)) (texts' : List (List ℕ)) (records' : List (Option Mime))
     → HaveRecords texts records → HaveRecords texts' records' → HaveRecords (texts ++ texts') (records ++ records')
 HaveRecords-append [] [] texts' records' are are' = are'
 HaveRecords-append [] (r ∷ records) texts' records' are are' = absurd are
@@ -110,7 +110,7 @@ ReadTo-end value rest last none before =
     subst (λ l. IsLastOf l last) (sym (append-nil before.texts) ∙ ap (λ l. before.texts ++ l) (sym none) ∙ before.whole) before.is
 
 -- the answer of a run is its last record, but for the charset
-ends : (m : Mime) (ms : List Mime) (n : Mime) → last_of m (ms ++ n ∷ []) ≡ n
+pub ends : (m : Mime) (ms : List Mime) (n : Mime) → last_of m (ms ++ n ∷ []) ≡ n
 ends m [] n = refl
 ends m (next ∷ ms) n = ends next ms n
 
@@ -151,7 +151,7 @@ answer_of-ends (m ∷ ms) n = record {
 }
 
 -- the last run ends with the last record
-last_run-ends : (before : List Mime) (m : Mime)
+pub last_run-ends : (before : List Mime) (m : Mime)
     → last_run (before ++ m ∷ []) ≡ reverse (take_while (same_essence m) (reverse before)) ++ m ∷ []
 last_run-ends before m =
     ap (λ l. reverse (first_run l)) (reverse-append before (m ∷ []))
@@ -163,7 +163,7 @@ extracted_of-ends before m =
     subst (λ l. SameEssence (answer_of l) m) (sym (last_run-ends before m))
     (answer_of-ends (reverse (take_while (same_essence m) (reverse before))) m)
 
-extracted_of-none : extracted_of [] ≡ None
+pub extracted_of-none : extracted_of [] ≡ None
 unfolding extracted_of
 extracted_of-none = refl
 

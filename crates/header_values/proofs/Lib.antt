@@ -4,3 +4,4 @@ pub mod UnitLemmas
 pub mod PartLemmas
 pub mod QuestionLemmas
 pub mod ExtractLemmas
+pub mod RunLemmas

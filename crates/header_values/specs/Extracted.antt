@@ -1,9 +1,9 @@
 -- The MIME type that the fields of a head state (WHATWG Fetch 2.2: extract a MIME type).
-use Rattle.std.specs.Prelude.{◌≡◌, ℕ, Bool, not, ◌&&◌, if◌then◌else◌, List, [], ◌∷◌, ◌++◌, filter, reverse, take_while, find, codes, bytes_eq, Option, Some, None, is_some}
+use Rattle.std.specs.Prelude.{◌≡◌, ℕ, Bool, not, ◌&&◌, if◌then◌else◌, List, [], ◌∷◌, ◌++◌, filter, reverse, take_while, codes, bytes_eq, Option, Some, None, is_some}
 use Rattle.std.specs.List.{filter_map}
-use Rattle.std.specs.Option.{option_map}
 use Rattle.std.specs.Str.{str_to_ascii_lowercase}
 use Rattle.mime_types.specs.Mime.{Mime, IsMime, HasNoMime}
+use Rattle.mime_types.specs.Records.{value_of}
 use Rattle.header_values.specs.Questions.{parts_under}
 
 -- the text has this record, or none
@@ -41,7 +41,7 @@ last_run mimes = reverse (first_run (reverse mimes))
 
 -- the value of the parameter `charset`
 abbrev pub charset_of : Mime → Option (List ℕ)
-charset_of mime = option_map (λ pair. pair.1) (find (λ pair. bytes_eq pair.0 (codes "charset")) mime.parameters)
+charset_of mime = value_of (codes "charset") mime.parameters
 
 -- the record, with the charset as its last parameter where there is one and the record has none
 abbrev pub with_charset : Option (List ℕ) → Mime → Mime

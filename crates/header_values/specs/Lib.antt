@@ -5,3 +5,4 @@ pub mod Parts
 pub mod Questions
 pub mod Extracted
 pub mod Essences
+pub mod Runs

@@ -1,17 +1,22 @@
 //! The MIME type that the fields of a head state (WHATWG Fetch 2.2: extract a MIME type).
-ghost use Rattle.std.specs.Prelude.{◌≡◌, ◌≤◌, ◌&&◌, ℕ, List, length, IfSome, IfNone, None, codes};
+ghost use Rattle.std.specs.Prelude.{◌≡◌, ◌≤◌, ◌&&◌, ℕ, List, length, IfSome, IfNone, None, Some, IfOk, if◌then◌else◌, codes};
 ghost use Rattle.std.specs.Borrow.{sem};
 ghost use Rattle.orb_bytes.specs.Fields.{same_name};
 ghost use Rattle.header_values.specs.Fields.{AreOfHead, pairs_in};
 ghost use Rattle.header_values.specs.Lending.{KeepsRoom};
 ghost use Rattle.header_values.specs.Extracted.{IsExtracted, IsExtractedEssence, StatesOne};
+ghost use Rattle.header_values.specs.Extracted.{is_any_type as is_any_mime};
+ghost use Rattle.header_values.specs.Runs.{IsLastMime, IsKeptMime};
 ghost use Rattle.header_values.specs.Essences.{IsKeptEssence, IsLastEssence};
 
 use crate::cut::parts;
 use crate::fields::Fields;
+use crate::run::Run;
 use crate::scratch::Scratch;
-use mime_types::{Essence, essence_of};
+use mime_types::{Essence, MimeError, MimeType, essence_of};
 use orb_bytes::eq_ignore_case;
+use orb_io::NoMemory;
+use std::alloc::Global;
 
 /// The type and subtype that Content-Type states, as it writes them; `None` exactly where no part of it is a
 /// MIME type other than `*/*` (WHATWG Fetch 2.2: extract a MIME type). The answer lies in the scratch.
@@ -23,6 +28,28 @@ pub fn extract_essence<'s>(scratch: &'s mut Scratch, fields: &Fields) -> Option<
     ensures* kept { sem 𝓛 (KeepsRoom scratch.entry) }
 {
     last_essence(scratch.join(fields, b"Content-Type")?)
+}
+
+/// The MIME type that Content-Type states, with its parameters; `None` exactly where no part of it is a MIME
+/// type other than `*/*`. Where the last of its parts that are has no charset, it gets the one of the first
+/// of the parts of the same type and subtype right before it. (WHATWG Fetch 2.2: extract a MIME type)
+///
+/// # Errors
+/// [`NoMemory`] where memory runs out.
+pub fn extract_mime(
+    alloc: Global,
+    fields: &Fields,
+    scratch: &mut Scratch,
+) -> Result<Option<MimeType>, NoMemory>
+    requires fields { AreOfHead fields.now }
+    requires room { length fields.now.head.now ≤ scratch.old }
+    ensures value { IfOk result (λ answer. IsExtracted (pairs_in fields.now) answer) }
+    ensures kept { scratch.new ≡ scratch.old }
+{
+    match scratch.join(fields, b"Content-Type") {
+        Some(value) => last_mime(alloc, value),
+        None => Ok(None),
+    }
 }
 
 /// The law that fields state one MIME type at most.
@@ -58,6 +85,42 @@ fn is_any_type(essence: &Essence) -> bool
     ensures { result ≡ (same_name essence.now.main.now (codes "*") && same_name essence.now.sub.now (codes "*")) }
 {
     eq_ignore_case(essence.main, b"*") && eq_ignore_case(essence.sub, b"*")
+}
+
+/// What the parts of the value state.
+fn last_mime(alloc: Global, value: &[u8]) -> Result<Option<MimeType>, NoMemory>
+    ensures { IfOk result (λ answer. IsLastMime value.now answer) }
+{
+    let mut run = None;
+    for part in parts(value) {
+        run = Run::behind(run, kept_mime(alloc, part)?);
+    }
+    match run {
+        Some(run) => Ok(Some(run.into_answer()?)),
+        None => Ok(None),
+    }
+}
+
+/// The record of a part, unless its type and subtype are `*/*`.
+fn kept_mime(alloc: Global, part: &[u8]) -> Result<Option<MimeType>, NoMemory>
+    ensures { IfOk result (λ mime. IsKeptMime part.now mime) }
+{
+    match MimeType::parse(alloc, part) {
+        Ok(mime) => Ok(unless_any(mime)),
+        Err(MimeError::NotMime) => Ok(None),
+        Err(MimeError::NoMemory) => Err(NoMemory),
+    }
+}
+
+/// The record, unless its type and subtype are `*/*`.
+fn unless_any(mime: MimeType) -> Option<MimeType>
+    ensures { result ≡ (if is_any_mime mime then None else Some mime) }
+{
+    if mime.main_type() == b"*".as_slice() && mime.subtype() == b"*".as_slice() {
+        None
+    } else {
+        Some(mime)
+    }
 }
 
 #[cfg(test)]
@@ -98,6 +161,63 @@ mod tests {
                 (None, None) => {}
                 _ => assert!(rt; false, "{first}, {second}"),
             }
+        }
+        Ok(())
+    }
+
+    /// The examples of WHATWG Fetch 2.2 behind the algorithm, and more.
+    #[test]
+    fn charset_of_the_run_is_kept(rt: HostRuntime) -> Result<(), Fail> {
+        let rows: [(&[&str], Option<&str>); 12] = [
+            (&["text/plain;charset=gbk, text/html"], Some("text/html")),
+            (
+                &["text/html;charset=gbk;a=b, text/html;x=y"],
+                Some("text/html;x=y;charset=gbk"),
+            ),
+            (
+                &["text/html;charset=gbk;a=b", "text/html;x=y"],
+                Some("text/html;x=y;charset=gbk"),
+            ),
+            (
+                &["text/html;charset=gbk", "x/x", "text/html;x=y"],
+                Some("text/html;x=y"),
+            ),
+            (&["text/html", "cannot-parse"], Some("text/html")),
+            (&["text/html", "*/*"], Some("text/html")),
+            (&["text/html", ""], Some("text/html")),
+            (
+                &["text/html;charset=gbk", "text/html"],
+                Some("text/html;charset=gbk"),
+            ),
+            (
+                &["text/html;charset=a, text/css, text/html"],
+                Some("text/html"),
+            ),
+            (
+                &["a/b;charset=c", "A/B;charset=d", "*/*", "a/B;e=f"],
+                Some("a/b;e=f;charset=c"),
+            ),
+            (&["a/b;charset=c", "a/b;CHARSET=d"], Some("a/b;charset=d")),
+            (&["*/*;charset=c", "a"], None),
+        ];
+        for (values, expected) in rows {
+            let mut pairs = Vec::new(rt.alloc());
+            for value in values {
+                pairs.push(("Content-Type", *value))?;
+            }
+            let head = Head::of(rt.alloc(), &pairs)?;
+            let fields = head.fields()?;
+            let mut scratch = Scratch::open(rt.alloc(), fields.head.len())?;
+            let found = extract_mime(rt.alloc(), &fields, &mut scratch)?;
+            let mut text = Vec::new(rt.alloc());
+            if let Some(mime) = &found {
+                mime.serialise_into(&mut text)?;
+            }
+            assert_eq!(rt; found.is_some(), expected.is_some(), "{values:?}");
+            assert!(rt;
+                text.as_slice() == expected.unwrap_or("").as_bytes(),
+                "{values:?}"
+            );
         }
         Ok(())
     }
