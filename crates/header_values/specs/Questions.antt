@@ -1,4 +1,4 @@
--- What two fields say of the body (WHATWG Fetch 2.2.6: determine nosniff; RFC 9110 8.4).
+-- What two fields say of the body (WHATWG Fetch: determine nosniff; RFC 9110 8.4).
 use Rattle.std.specs.Prelude.{ℕ, Bool, false, not, ◌&&◌, List, [], ◌∷◌, codes}
 use Rattle.std.specs.List.{list_any}
 use Rattle.orb_bytes.specs.Fields.{same_name}
