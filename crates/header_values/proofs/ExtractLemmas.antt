@@ -10,7 +10,7 @@ use Rattle.mime_types.specs.Mime.{Mime, HasNoMime, IsEssence}
 use Rattle.mime_types.specs.declared.essences.Essence.{Essence}
 use Rattle.mime_types.proofs.CutLemmas.{one_record}
 use Rattle.header_values.specs.Joined.{joined}
-use Rattle.header_values.specs.Parts.{parts_of, parts_left_of}
+use Rattle.header_values.specs.Cuts.{parts_of, parts_left_of}
 use Rattle.header_values.specs.Extracted.{HasRecord, HaveRecords, is_any_type, kept_of, same_essence, first_run, last_run, charset_of, with_charset, last_of, answer_of, extracted_of, IsExtracted, IsExtractedEssence, StatesOne}
 use Rattle.header_values.specs.Essences.{EndsWith, IsLastOf}
 

@@ -11,7 +11,8 @@ use Rattle.std.proofs.lemmas.List.{take_more, take_all}
 use Rattle.header_values.proofs.UnitLemmas.{stops_units, units_of}
 use Rattle.header_values.specs.declared.split.Place.{Place}
 use Rattle.header_values.specs.declared.split.Place.TheVariants.{Outside, Inside}
-use Rattle.header_values.specs.Parts.{Piece, bare, string, print_piece, is_piece, is_last, print_part, is_part, is_closed, print_parts, are_parts, IsCut, part_text, HasOneCut, after, is_cut, put_first, cut_from, cuts_left, parts_of, parts_left_of}
+use Rattle.header_values.specs.Parts.{Piece, bare, string, print_piece, is_piece, is_last, print_part, is_part, is_closed, print_parts, are_parts, IsCut, part_text}
+use Rattle.header_values.specs.Cuts.{HasOneCut, after, is_cut, put_first, cut_from, cuts_left, parts_of, parts_left_of}
 
 put_first-twice : (a b : List ℕ) (texts : List (List ℕ)) → put_first a (put_first b texts) ≡ put_first (a ++ b) texts
 put_first-twice a b [] = refl

@@ -3,7 +3,7 @@ use Rattle.std.proofs.Common.{◌≡◌, ℕ, List, codes, Some, sym, ap, ◌∙
 use Rattle.std.specs.List.{list_any}
 use Rattle.orb_bytes.specs.Fields.{same_name}
 use Rattle.header_values.specs.Joined.{joined}
-use Rattle.header_values.specs.Parts.{parts_of, parts_left_of}
+use Rattle.header_values.specs.Cuts.{parts_of, parts_left_of}
 use Rattle.header_values.specs.Questions.{first_passes, is_nosniff, is_coding, is_coded}
 
 pub nosniff_by : (fields : List (List ℕ × List ℕ)) (value : List ℕ) (texts : List (List ℕ))

@@ -8,7 +8,7 @@ use Rattle.std.proofs.lemmas.Slice.Eq.{bytes_eq-Decides}
 use Rattle.mime_types.specs.Mime.{Mime, IsMime, HasNoMime}
 use Rattle.header_values.specs.declared.run.Run.{Run}
 use Rattle.header_values.specs.Joined.{joined}
-use Rattle.header_values.specs.Parts.{parts_of, parts_left_of}
+use Rattle.header_values.specs.Cuts.{parts_of, parts_left_of}
 use Rattle.header_values.specs.Extracted.{HaveRecords, is_any_type, kept_of, same_essence, first_run, last_run, charset_of, with_charset, answer_of, extracted_of, IsExtracted}
 use Rattle.header_values.specs.Runs.{run_with, run_behind, answer_by, answer_in, last_in, IsRunOf, IsKeptMime, IsLastMime}
 use Rattle.header_values.proofs.ExtractLemmas.{kept_of-append, HaveRecords-append, last_run-ends, ends, extracted_of-none}

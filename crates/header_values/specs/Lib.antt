@@ -2,6 +2,7 @@ pub mod Fields
 pub mod Joined
 pub mod Lending
 pub mod Parts
+pub mod Cuts
 pub mod Questions
 pub mod Extracted
 pub mod Essences

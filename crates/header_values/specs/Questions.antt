@@ -1,10 +1,10 @@
--- What two fields say of the body (WHATWG Fetch 2.2.6: determine nosniff; RFC 9110 8.4).
+-- What two fields say of the body (WHATWG Fetch: determine nosniff; RFC 9110 8.4).
 use Rattle.std.specs.Prelude.{ℕ, Bool, false, not, ◌&&◌, List, [], ◌∷◌, codes}
 use Rattle.std.specs.List.{list_any}
 use Rattle.orb_bytes.specs.Fields.{same_name}
 use Rattle.mime_types.specs.Mime.{is_empty}
 use Rattle.header_values.specs.Joined.{joined}
-use Rattle.header_values.specs.Parts.{parts_left_of}
+use Rattle.header_values.specs.Cuts.{parts_left_of}
 
 -- the parts of the fields of that name; none where there is no such field
 abbrev pub parts_under : List (List ℕ × List ℕ) → List ℕ → List (List ℕ)

@@ -2,7 +2,7 @@
 use Rattle.std.specs.Prelude.{◌≡◌, ℕ, List, [], ◌∷◌, Option, Some, None, option_to_list, if◌then◌else◌}
 use Rattle.mime_types.specs.Mime.{Mime}
 use Rattle.header_values.specs.declared.run.Run.{Run}
-use Rattle.header_values.specs.Parts.{parts_of}
+use Rattle.header_values.specs.Cuts.{parts_of}
 use Rattle.header_values.specs.Extracted.{HaveRecords, kept_of, same_essence, last_run, charset_of, with_charset, last_of, extracted_of}
 
 -- the run with one record more
@@ -39,7 +39,8 @@ IsRunOf mimes (Some run) =
 -- the record of the text, if it is kept
 abbrev pub IsKeptMime : List ℕ → Option Mime → Type 0
 IsKeptMime text mime =
-    (records : List (Option Mime)) × HaveRecords (text ∷ []) records × (kept_of records ≡ option_to_list mime)
+    (records : List (Option Mime)) × HaveRecords (text ∷ []) records
+    × (kept_of records ≡ option_to_list mime)
 
 -- what the parts of the value state
 abbrev pub IsLastMime : List ℕ → Option Mime → Type 0

@@ -18,21 +18,24 @@ use orb_bytes::eq_ignore_case;
 use orb_io::NoMemory;
 use std::alloc::Global;
 
-/// The type and subtype that Content-Type states, as it writes them; `None` exactly where no part of it is a
-/// MIME type other than `*/*` (WHATWG Fetch 2.2: extract a MIME type). The answer lies in the scratch.
+/// The type and subtype that Content-Type states, as it writes them; `None` exactly where no part of
+/// it is a MIME type other than `*/*` (WHATWG Fetch 2.2: extract a MIME type). The answer lies in
+/// the scratch.
 pub fn extract_essence<'s>(scratch: &'s mut Scratch, fields: &Fields) -> Option<Essence<'s>>
     requires fields { AreOfHead fields.now }
     requires room { length fields.now.head.now ≤ scratch.old }
-    ensures found { IfSome result (λ e. IsExtractedEssence (pairs_in fields.now) e.main.now e.sub.now) }
+    ensures found { IfSome result
+        (λ e. IsExtractedEssence (pairs_in fields.now) e.main.now e.sub.now) }
     ensures none { IfNone result (IsExtracted (pairs_in fields.now) None) }
     ensures* kept { sem 𝓛 (KeepsRoom scratch.entry) }
 {
     last_essence(scratch.join(fields, b"Content-Type")?)
 }
 
-/// The MIME type that Content-Type states, with its parameters; `None` exactly where no part of it is a MIME
-/// type other than `*/*`. Where the last of its parts that are has no charset, it gets the one of the first
-/// of the parts of the same type and subtype right before it. (WHATWG Fetch 2.2: extract a MIME type)
+/// The MIME type that Content-Type states, with its parameters; `None` exactly where no part of it is
+/// a MIME type other than `*/*`. It is the last such part. Those right before it that have its type and
+/// subtype make a run with it: where it has no charset and the first of the run has one, it gets that
+/// one as its last parameter. (WHATWG Fetch 2.2: extract a MIME type)
 ///
 /// # Errors
 /// [`NoMemory`] where memory runs out.
@@ -82,7 +85,8 @@ fn kept_essence(part: &[u8]) -> Option<Essence<'_>>
 
 /// Whether it is `*/*`.
 fn is_any_type(essence: &Essence) -> bool
-    ensures { result ≡ (same_name essence.now.main.now (codes "*") && same_name essence.now.sub.now (codes "*")) }
+    ensures { result
+        ≡ (same_name essence.now.main.now (codes "*") && same_name essence.now.sub.now (codes "*")) }
 {
     eq_ignore_case(essence.main, b"*") && eq_ignore_case(essence.sub, b"*")
 }

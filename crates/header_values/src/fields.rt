@@ -36,7 +36,8 @@ impl Fields<'_> {
         requires fields { AreOfHead self.now }
         requires room { length self.now.head.now ≤ vec_capacity text.old }
         ensures capacity { vec_capacity text.old ≤ vec_capacity text.new }
-        ensures joined { (if result then Some text.new.items else None) ≡ joined (pairs_in self.now) name.now }
+        ensures joined { (if result then Some text.new.items else None)
+            ≡ joined (pairs_in self.now) name.now }
     {
         text.clear();
         let mut found = false;

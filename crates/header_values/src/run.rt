@@ -16,7 +16,8 @@ pub(crate) struct Run {
 }
 
 impl Run {
-    /// The run behind one record more, if there is one. It begins anew where the essence is another.
+    /// The run behind one record more, if there is one. It begins anew where the essence is
+    /// another.
     pub(crate) fn behind(run: Option<Run>, mime: Option<MimeType>) -> Option<Run>
         ensures { result ≡ run_behind run mime }
     {

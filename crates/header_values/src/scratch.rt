@@ -1,7 +1,7 @@
 //! Room for one joined value at a time.
 //!
-//! A call whose answer lies in the scratch takes the scratch first, so that its callers know that the room
-//! stays.
+//! A call whose answer lies in the scratch takes the scratch first: the contract can then say that the
+//! room stays.
 ghost use Rattle.std.specs.Prelude.{◌≡◌, ◌+◌, ◌≤◌, ◌++◌, IfOk, length, vec_len, vec_capacity};
 
 use crate::fields::Fields;
@@ -46,7 +46,8 @@ impl Scratch {
     }
 
     /// The values of the fields of that name, with `, ` between them; names are compared without
-    /// regard to case. `None` exactly where there is no such field. (RFC 9110 5.3, WHATWG Fetch 2.2)
+    /// regard to case. `None` exactly where there is no such field.
+    /// (RFC 9110 5.3, WHATWG Fetch 2.2: get)
     pub fn join(&mut self, fields: &Fields, name: &[u8]) -> Option<&[u8]>
         requires fields { AreOfHead fields.now }
         requires room { length fields.now.head.now ≤ self.old }

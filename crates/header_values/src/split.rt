@@ -1,10 +1,10 @@
 //! The parts of a value, one after the other.
 //!
-//! One look at each byte is enough: whether a comma cuts hangs on the bytes before it by three places
-//! alone, outside of a quoted string, inside of one, and behind a `\` in one.
+//! One look at each byte is enough: whether a comma cuts hangs on the bytes before it by three
+//! places alone, outside of a quoted string, inside of one, and behind a `\` in one.
 ghost use Rattle.std.specs.Prelude.{◌≡◌, ◌∷◌};
 ghost use Rattle.std.specs.Option.{option_copied};
-ghost use Rattle.header_values.specs.Parts.{after as place_after, is_cut, cut_from, cuts_left};
+ghost use Rattle.header_values.specs.Cuts.{after as place_after, is_cut, cut_from, cuts_left};
 
 use orb_bytes::trim_tab_or_space;
 
@@ -50,7 +50,7 @@ pub struct Parts<'a> {
 
 impl<'a> Iterator for Parts<'a> {
     ghost use Rattle.std.specs.Iterator.{YieldsFirstBy, item_count};
-    ghost use Rattle.header_values.specs.Parts.{parts_left};
+    ghost use Rattle.header_values.specs.Cuts.{parts_left};
 
     type Item = &'a [u8];
 
@@ -65,8 +65,8 @@ impl<'a> Iterator for Parts<'a> {
     }
 }
 
-/// The text before the first comma outside of the quoted strings, and the text behind it; without such a
-/// comma the whole text, and `None`.
+/// The text before the first comma outside of the quoted strings, and the text behind it; without
+/// such a comma the whole text, and `None`.
 fn split_part(text: &[u8]) -> (&[u8], Option<&[u8]>)
     ensures { cut_from Place.Outside text.now ≡ result.0.now ∷ cuts_left (option_copied result.1) }
 {

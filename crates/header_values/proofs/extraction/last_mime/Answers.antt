@@ -1,5 +1,5 @@
 use Rattle.std.proofs.Common.{ap, ◌∙◌}
-use Rattle.header_values.specs.Parts.{parts_left}
+use Rattle.header_values.specs.Cuts.{parts_left}
 use Rattle.header_values.proofs.RunLemmas.{MimesTo-start, MimesTo-more, MimesTo-answer, MimesTo-absent}
 use Rattle.header_values.proofs.extraction.last_mime.Goals as goal
 

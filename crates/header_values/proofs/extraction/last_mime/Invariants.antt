@@ -1,4 +1,4 @@
-use Rattle.header_values.specs.Parts.{parts_left}
+use Rattle.header_values.specs.Cuts.{parts_left}
 use Rattle.header_values.proofs.RunLemmas.{MimesTo}
 use Rattle.header_values.proofs.extraction.last_mime.Given as goal
 

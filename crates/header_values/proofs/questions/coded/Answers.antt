@@ -1,7 +1,7 @@
 use Rattle.std.proofs.Common.{rules, tests, ◌∙◌}
 use Rattle.std.proofs.lemmas.Iterator.Consumers.{YieldsList-from_first}
 use Rattle.std.proofs.lemmas.Iterator.Search.{any_from_yields_List}
-use Rattle.header_values.specs.Parts.{parts_left, parts_of}
+use Rattle.header_values.specs.Cuts.{parts_left, parts_of}
 use Rattle.header_values.specs.Questions.{is_coding}
 use Rattle.header_values.proofs.QuestionLemmas.{coded_by}
 use Rattle.header_values.proofs.questions.coded.Goals as goal

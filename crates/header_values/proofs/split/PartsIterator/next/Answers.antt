@@ -1,6 +1,6 @@
 use Rattle.std.proofs.Common.{◌∷◌, length, ap, sym, ◌∙◌, arith}
 use Rattle.std.specs.Option.{option_copied}
-use Rattle.header_values.specs.Parts.{parts_left_of}
+use Rattle.header_values.specs.Cuts.{parts_left_of}
 use Rattle.header_values.proofs.PartLemmas.{parts_of-cut}
 use Rattle.header_values.proofs.split.PartsIterator.next.Goals as goal
 
