@@ -4,7 +4,7 @@ use Rattle.std.specs.List.{list_all}
 use Rattle.orb_bytes.specs.Decimal.{decimal_of}
 use Rattle.orb_bytes.specs.Fields.{same_name}
 use Rattle.header_values.specs.Joined.{joined}
-use Rattle.header_values.specs.Parts.{parts_of}
+use Rattle.header_values.specs.Cuts.{parts_of}
 use Rattle.http_exchange.specs.declared.refusals.BadKind.{BadKind}
 use Rattle.http_exchange.specs.declared.refusals.BadKind.TheVariants.{Interim, BadFraming}
 use Rattle.http_exchange.specs.declared.frames.BodyFrame.{BodyFrame}

@@ -3,7 +3,7 @@ ghost use Rattle.std.specs.Prelude.{◌≡◌, ◌≤◌, length, codes};
 ghost use Rattle.std.specs.List.{list_all};
 ghost use Rattle.header_values.specs.Fields.{AreOfHead, pairs_in};
 ghost use Rattle.header_values.specs.Joined.{joined};
-ghost use Rattle.header_values.specs.Parts.{parts_of, parts_left};
+ghost use Rattle.header_values.specs.Cuts.{parts_of, parts_left};
 ghost use Rattle.http_exchange.specs.RequestFields.{value_of};
 ghost use Rattle.http_exchange.specs.ResponseFields.{frame_of as frame_stated, framed, sized, length_of, same_length, writes};
 ghost use Rattle.http_exchange.specs.Reading.{ReadsResponseHead};

@@ -1,7 +1,7 @@
 use Rattle.std.proofs.Common.{rules, tests, refl}
 use Rattle.std.proofs.lemmas.Iterator.Consumers.{YieldsList-from_first}
 use Rattle.std.proofs.lemmas.Iterator.Search.{all_from_yields_List}
-use Rattle.header_values.specs.Parts.{parts_left}
+use Rattle.header_values.specs.Cuts.{parts_left}
 use Rattle.http_exchange.specs.ResponseFields.{writes}
 use Rattle.http_exchange.proofs.response.all_write.Goals as goal
 
