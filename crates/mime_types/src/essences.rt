@@ -6,8 +6,8 @@ ghost use Rattle.std.specs.Prelude.{IfSome, IfNone};
 ghost use Rattle.mime_types.specs.Mime.{IsEssence, WritesEssence, HasNoMime, HasOneRecord};
 ghost use Rattle.mime_types.specs.Reading.{ReadsEssence};
 
-use crate::scanning::{is_nonempty_token, split_before, split_once, trim_http_ws_end};
-use orb_bytes::trim_http_ws;
+use crate::scanning::{is_nonempty_token, split_before, split_once};
+use orb_bytes::{trim_http_ws, trim_http_ws_end};
 
 /// The type and subtype of a text, as the text writes them: their letters have either case.
 #[derive(Clone, Copy, Debug, PartialEq, Eq)]

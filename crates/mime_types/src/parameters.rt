@@ -11,10 +11,9 @@ ghost use Rattle.mime_types.specs.Records.{has_name};
 ghost use Rattle.mime_types.specs.Reading.{ReadsSegment, ReadsParameters, kept_with};
 ghost use Rattle.mime_types.specs.Stored.{pairs_in};
 
-use crate::scanning::{
-    are_quoted_token_bytes, is_nonempty_token, lowered, split_name, trim_http_ws_start,
-};
+use crate::scanning::{are_quoted_token_bytes, is_nonempty_token, lowered, split_name};
 use crate::values::read_value;
+use orb_bytes::trim_http_ws_start;
 use std::alloc::{AllocError, Global};
 
 /// A name in small letters, and its value.

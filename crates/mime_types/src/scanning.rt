@@ -4,12 +4,11 @@ ghost use Rattle.std.specs.List.{list_all};
 ghost use Rattle.std.specs.Str.{str_to_ascii_lowercase};
 ghost use Rattle.mime_types.specs.Mime.{is_name_byte, is_token as is_token_text};
 ghost use Rattle.mime_types.specs.Spans.{begins_outside, Spans};
-ghost use Rattle.orb_bytes.specs.Bytes.{AllPass, is_http_whitespace};
+ghost use Rattle.orb_bytes.specs.Bytes.{AllPass};
 ghost use Rattle.orb_bytes.specs.Bytes.{is_token_byte, is_quoted_token_byte};
-ghost use Rattle.orb_bytes.specs.Trim.{without_leading, without_trailing};
 
 use memchr::{memchr, memchr2};
-use orb_bytes::{is_http_ws, is_quoted_token, is_token, lower};
+use orb_bytes::{is_quoted_token, is_token, lower};
 use std::alloc::{AllocError, Global};
 
 /// The text before the first such byte, and behind it; `None` exactly where there is none.
@@ -47,32 +46,6 @@ pub(crate) fn split_name(text: &[u8]) -> (&[u8], &[u8])
 {
     let place = memchr2(b';', b'=', text).unwrap_or(text.len());
     text.split_at(place)
-}
-
-/// The text without HTTP whitespace at its front.
-pub(crate) fn trim_http_ws_start(text: &[u8]) -> &[u8]
-    ensures { result.now ≡ without_leading is_http_whitespace text.now }
-{
-    let mut rest = text;
-    'leading: while let [first, others @ ..] = rest
-        && is_http_ws(*first)
-    {
-        rest = others;
-    }
-    rest
-}
-
-/// The text without HTTP whitespace at its end.
-pub(crate) fn trim_http_ws_end(text: &[u8]) -> &[u8]
-    ensures { result.now ≡ without_trailing is_http_whitespace text.now }
-{
-    let mut rest = text;
-    'trailing: while let [others @ .., last] = rest
-        && is_http_ws(*last)
-    {
-        rest = others;
-    }
-    rest
 }
 
 /// Whether the text is an HTTP token code point or more of them.

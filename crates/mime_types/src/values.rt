@@ -5,7 +5,8 @@ ghost use Rattle.mime_types.specs.Mime.{QuotedUnit, Close, Assigned, is_name_byt
 ghost use Rattle.mime_types.specs.Mime.{quoted_value, assigned_value};
 ghost use Rattle.mime_types.specs.Reading.{ReadsQuoted, ReadsAssigned};
 
-use crate::scanning::{split_before, strip_byte, trim_http_ws_end};
+use crate::scanning::{split_before, strip_byte};
+use orb_bytes::trim_http_ws_end;
 use std::alloc::{AllocError, Global};
 
 /// The value that a name is assigned, if any, and the text from the next `;` on.

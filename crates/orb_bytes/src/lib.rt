@@ -15,4 +15,4 @@ pub use classes::{
 };
 pub use letters::{eq_ignore_case, lower};
 pub use numbers::{decimal, read_decimal};
-pub use trimming::{trim_http_ws, trim_tab_or_space};
+pub use trimming::{trim_http_ws, trim_http_ws_end, trim_http_ws_start, trim_tab_or_space};

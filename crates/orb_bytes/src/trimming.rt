@@ -4,11 +4,28 @@ ghost use Rattle.orb_bytes.specs.Bytes.{is_one_of, is_http_whitespace};
 ghost use Rattle.orb_bytes.specs.Bytes.{is_tab_or_space as is_tab_or_space_byte};
 ghost use Rattle.orb_bytes.specs.Trim.{trimmed, without_leading, without_trailing};
 
+/// HTTP whitespace (WHATWG Fetch 2.2).
+const HTTP_WS: &[u8] = b"\t\n\r ";
+
 /// The text without HTTP whitespace at its two ends (WHATWG Fetch 2.2).
 pub fn trim_http_ws(text: &[u8]) -> &[u8]
     ensures { result.now ≡ trimmed is_http_whitespace text.now }
 {
-    trim_of(text, b"\t\n\r ")
+    trim_of(text, HTTP_WS)
+}
+
+/// The text without HTTP whitespace at its front.
+pub fn trim_http_ws_start(text: &[u8]) -> &[u8]
+    ensures { result.now ≡ without_leading is_http_whitespace text.now }
+{
+    trim_start(text, HTTP_WS)
+}
+
+/// The text without HTTP whitespace at its end.
+pub fn trim_http_ws_end(text: &[u8]) -> &[u8]
+    ensures { result.now ≡ without_trailing is_http_whitespace text.now }
+{
+    trim_end(text, HTTP_WS)
 }
 
 /// The text without tabs and spaces at its two ends (WHATWG Fetch 2.2).
