@@ -1,0 +1,8 @@
+-- The state of a media resource of which ranges are asked.
+use Rattle.std.specs.Prelude.{Bool, if◌then◌else◌}
+use Rattle.media_state.specs.declared.states.MediaState.{MediaState}
+use Rattle.media_state.specs.declared.states.MediaState.TheVariants.{Subsequent}
+
+-- the state after a response, by whether it was let through as media
+abbrev pub state_after : MediaState → Bool → MediaState
+state_after state was_media = if was_media then Subsequent else state

@@ -1,0 +1,38 @@
+//! The states of media resources, as the ORB proposal tells them apart.
+ghost use Rattle.std.specs.Prelude.{◌≡◌};
+ghost use Rattle.media_state.specs.States.{state_after};
+
+/// What is known of a request for media when its response comes.
+#[derive(Clone, Copy, Debug, PartialEq, Eq)]
+pub enum MediaState {
+    /// It is no request for media.
+    Na,
+    /// No response of its resource was let through as media.
+    Initial,
+    /// A response of its resource was let through as media.
+    Subsequent,
+}
+
+/// The state after a response: `Subsequent` where it was let through as media, and else as before.
+pub fn after(state: MediaState, was_media: bool) -> MediaState
+    ensures { result ≡ state_after state was_media }
+{
+    if was_media {
+        MediaState::Subsequent
+    } else {
+        state
+    }
+}
+
+#[cfg(test)]
+mod tests {
+    use super::*;
+
+    #[test]
+    fn media_makes_what_follows_subsequent(rt: HostRuntime) {
+        for state in [MediaState::Na, MediaState::Initial, MediaState::Subsequent] {
+            assert_eq!(rt; after(state, false), state);
+            assert_eq!(rt; after(state, true), MediaState::Subsequent);
+        }
+    }
+}

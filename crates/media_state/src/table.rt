@@ -1,0 +1,143 @@
+//! A table of media states by id, in memory that is taken once.
+//!
+//! It is a hash map with room for all the ids that it may keep, so that nothing behind
+//! [`MediaTable::open`] can fail for want of memory.
+ghost use Rattle.std.specs.Prelude.{◌≡◌, ◌↔◌, ◌≤◌, true, IfOk, OnOk, OnErr, IsErr};
+ghost use Rattle.std.specs.Ordering.{nat_cmp};
+ghost use Rattle.std.specs.FinMap as map;
+ghost use Rattle.media_state.specs.Table.{admitted, HasNoRoom};
+
+use crate::states::MediaState;
+use orb_io::NoMemory;
+use std::alloc::Global;
+use std::collections::HashMap;
+use std::marker::Model;
+
+/// The most ids that a table keeps.
+const MOST_IDS: usize = 4096;
+
+/// The table keeps as many ids as it may.
+#[derive(Clone, Copy, Debug, PartialEq, Eq)]
+pub struct Full;
+
+/// The states of at most 4,096 ids.
+#[derive(Drop)]
+pub struct MediaTable {
+    states: HashMap<u64, MediaState>,
+}
+
+impl Model for MediaTable {
+    ghost use Rattle.std.specs.Prelude.{◌≤◌, ◌+◌, nat_eq};
+    ghost use Rattle.std.specs.FinMap as map;
+    ghost use Rattle.std.specs.HashMap.{hash_map_len, spare, IsUnique};
+    ghost use Rattle.media_state.specs.Table.{States};
+    ghost use Rattle.std.specs.Coded.{coded_ℕ};
+    ghost use Rattle.media_state.specs.contracts.states.MediaState as state;
+
+    ghost Value = { States };
+
+    ghost coded = { map.code coded_ℕ state.the_row.coded };
+
+    ghost view = { λ t. map.from_entries t.states.entries };
+
+    ghost invariant = { λ t. (hash_map_len t.states ≤ 4096)
+        × (4096 ≤ hash_map_len t.states + spare t.states) × IsUnique nat_eq t.states };
+}
+
+impl MediaTable {
+    /// An empty table, with room for all the ids that it may keep.
+    pub fn open(alloc: Global) -> Result<MediaTable, NoMemory>
+        ensures { IfOk result (λ table. table ≡ map.empty) }
+    {
+        match HashMap::with_capacity(alloc, MOST_IDS) {
+            Ok(states) => Ok(MediaTable { states }),
+            Err(_) => Err(NoMemory),
+        }
+    }
+
+    /// The state that is kept of the id; `None` exactly where the id isn't kept.
+    pub fn look(&self, id: u64) -> Option<MediaState>
+        ensures { result ≡ map.get self.now id }
+    {
+        self.states.get(&id).copied()
+    }
+
+    /// Keeps the id: as `Initial` where it is new, and as it is where it is kept. `Full` exactly where
+    /// 4,096 other ids are kept; the table is then as before.
+    pub fn admit(&mut self, id: u64) -> Result<(), Full>
+        ensures ok { OnOk result (self.new ≡ admitted self.old id) }
+        ensures full { IsErr result ↔ HasNoRoom self.old id }
+        ensures err { OnErr result (self.new ≡ self.old) }
+        ensures bounded { map.len self.new ≤ 4096 }
+    {
+        if self.states.contains_key(&id) {
+            return Ok(());
+        }
+        if self.states.len() == MOST_IDS {
+            return Err(Full);
+        }
+        match self.states.insert(id, MediaState::Initial) {
+            Ok(_) => Ok(()),
+            Err(_) => unreachable!(),
+        }
+    }
+
+    /// Keeps the state of an id that is kept. All other ids stay as they are.
+    pub fn set(&mut self, id: u64, state: MediaState)
+        requires { map.contains_key self.old id ≡ true }
+        ensures { self.new ≡ map.insert self.old id state }
+    {
+        match self.states.get_mut(&id) {
+            Some(kept) => *kept = state,
+            None => unreachable!(),
+        }
+    }
+
+    /// Forgets all ids, and keeps the room for them.
+    pub fn clear(&mut self)
+        ensures { self.new ≡ map.empty }
+    {
+        self.states.clear();
+    }
+}
+
+#[cfg(test)]
+mod tests {
+    use super::*;
+    use std::test::Fail;
+
+    #[test]
+    fn states_are_kept_by_id(rt: HostRuntime) -> Result<(), Fail> {
+        let mut table = MediaTable::open(rt.alloc())?;
+        for id in [7, u64::MAX, 7] {
+            assert_eq!(rt; table.admit(id), Ok(()));
+        }
+        assert_eq!(rt; table.look(0), None);
+        assert_eq!(rt; table.look(7), Some(MediaState::Initial));
+        if table.look(7).is_some() {
+            table.set(7, MediaState::Subsequent);
+        }
+        assert_eq!(rt; table.admit(7), Ok(()));
+        assert_eq!(rt; table.look(7), Some(MediaState::Subsequent));
+        assert_eq!(rt; table.look(u64::MAX), Some(MediaState::Initial));
+        table.clear();
+        assert_eq!(rt; table.look(7), None);
+        Ok(())
+    }
+
+    #[test]
+    fn a_full_table_admits_what_it_keeps(rt: HostRuntime) -> Result<(), Fail> {
+        let mut table = MediaTable::open(rt.alloc())?;
+        for _ in 0..2 {
+            for id in 0..4096 {
+                assert_eq!(rt; table.admit(id), Ok(()), "{id}");
+            }
+            assert_eq!(rt; table.admit(5), Ok(()));
+            assert_eq!(rt; table.admit(4096), Err(Full));
+            assert_eq!(rt; table.look(4096), None);
+            assert_eq!(rt; table.look(4095), Some(MediaState::Initial));
+            table.clear();
+        }
+        Ok(())
+    }
+}
