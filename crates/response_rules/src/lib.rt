@@ -10,11 +10,15 @@
 #![tactic(auto)]
 
 mod deciding;
+#[cfg(test)]
+mod examples;
 mod facts;
 mod groups;
 mod laws;
 mod rules;
 mod tables;
+#[cfg(test)]
+mod tests;
 mod verdicts;
 
 pub use deciding::Decider;
