@@ -1,0 +1,4 @@
+pub mod TableLemmas
+pub mod SettledLemmas
+pub mod EssenceLemmas
+pub mod ReadLemmas

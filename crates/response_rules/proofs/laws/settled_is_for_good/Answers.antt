@@ -1,0 +1,11 @@
+use Rattle.response_rules.proofs.TableLemmas.{rule_is_computed}
+use Rattle.response_rules.proofs.SettledLemmas.{settled_is_computed, settled-longer, settled-decides}
+use Rattle.response_rules.proofs.laws.settled_is_for_good.Goals as goal
+
+pub returns : goal.returns
+returns c = record {
+  settled = λ h front more r s.
+      (settled_is_computed h _ r).1 (settled-longer h front more r ((settled_is_computed h front r).0 s));
+  decides = λ h front more r s.
+      (rule_is_computed h _ r).1 (settled-decides h front more r ((settled_is_computed h front r).0 s));
+}

@@ -1,0 +1,35 @@
+-- What a decider keeps of a head.
+use Rattle.std.specs.Prelude.{◌≡◌, ℕ, List, Option, is_some}
+use Rattle.mime_types.specs.Sets.{is_safelisted_type, is_never_sniffed_type, is_blocklisted_type, is_plain_text_type, is_media_type}
+use Rattle.header_values.specs.Questions.{is_nosniff, is_coded}
+use Rattle.response_rules.specs.declared.groups.Groups.{Groups}
+use Rattle.response_rules.specs.declared.facts.Facts.{Facts}
+use Rattle.response_rules.specs.Heads.{Head, HasEssence, is_in, has_front}
+
+-- the groups of an essence; of none no group
+abbrev pub groups_of : Option (List ℕ × List ℕ) → Groups
+groups_of essence = record {
+  typed = is_some essence;
+  safelisted = is_in is_safelisted_type essence;
+  never_sniffed = is_in is_never_sniffed_type essence;
+  blocklisted = is_in is_blocklisted_type essence;
+  plain_text = is_in is_plain_text_type essence;
+  media = is_in (λ main sub. is_media_type main) essence;
+}
+
+-- these are the groups of the essence that the fields state
+abbrev pub AreGroups : List (List ℕ × List ℕ) → Groups → Type 0
+AreGroups fields groups =
+    (essence : Option (List ℕ × List ℕ)) × HasEssence fields essence × (groups ≡ groups_of essence)
+
+-- what the rules ask of a head
+abbrev pub facts_of : Head → Facts
+facts_of h = record {
+  state = h.state;
+  opaque = h.opaque;
+  status = h.status;
+  groups = groups_of h.essence;
+  nosniff = is_nosniff h.fields;
+  coded = is_coded h.fields;
+  front = has_front h.fields;
+}

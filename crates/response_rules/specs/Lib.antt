@@ -1,0 +1,6 @@
+pub mod Rules
+pub mod Heads
+pub mod Tables
+pub mod Settled
+pub mod Facts
+pub mod Reads

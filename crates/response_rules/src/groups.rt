@@ -1,0 +1,51 @@
+//! The groups of the MIME type that a head states.
+ghost use Rattle.std.specs.Prelude.{◌≡◌, ◌≤◌, length};
+ghost use Rattle.header_values.specs.Fields.{AreOfHead, pairs_in};
+ghost use Rattle.response_rules.specs.Facts.{AreGroups};
+
+use header_values::{Fields, Scratch, extract_essence};
+use mime_types::{is_blocklisted, is_media, is_never_sniffed, is_safelisted, is_text_plain};
+
+/// Whether there is a type, and the groups that have it.
+#[derive(Clone, Copy)]
+pub(crate) struct Groups {
+    /// The fields state a type.
+    pub(crate) typed: bool,
+    /// A script's, a style sheet's or SVG.
+    pub(crate) safelisted: bool,
+    /// Of those whose bodies are never looked at.
+    pub(crate) never_sniffed: bool,
+    /// HTML, JSON or XML.
+    pub(crate) blocklisted: bool,
+    /// Plain text.
+    pub(crate) plain_text: bool,
+    /// Audio, image or video.
+    pub(crate) media: bool,
+}
+
+/// The groups of the type that the fields state.
+pub(crate) fn read_groups(fields: &Fields, scratch: &mut Scratch) -> Groups
+    requires fields { AreOfHead fields.now }
+    requires room { length fields.now.head.now ≤ scratch.old }
+    ensures groups { AreGroups (pairs_in fields.now) result }
+    ensures kept { scratch.new ≡ scratch.old }
+{
+    match extract_essence(scratch, fields) {
+        Some(essence) => Groups {
+            typed: true,
+            safelisted: is_safelisted(&essence),
+            never_sniffed: is_never_sniffed(&essence),
+            blocklisted: is_blocklisted(&essence),
+            plain_text: is_text_plain(&essence),
+            media: is_media(&essence),
+        },
+        None => Groups {
+            typed: false,
+            safelisted: false,
+            never_sniffed: false,
+            blocklisted: false,
+            plain_text: false,
+            media: false,
+        },
+    }
+}
