@@ -136,8 +136,6 @@ sent-allows h front r is rule =
     ap is_allowing (same_Some r p.found (sym rule ∙ settled-decides_now h front p.found p.is)) ∙ p.passes
 
 -- a response that is hopeless
-blocking : Rule → Bool
-blocking r = not (is_allowing r)
 
 not_true : (b : Bool) → not b ≡ true → b ≡ false
 not_true true is = sym is
@@ -160,6 +158,33 @@ unfolding is_hopeless is_sent
 hopeless-unsent h front is =
     let p = passes_from (λ s. not (is_allowing s)) (settled_rule h front) is in
     rw p.is (not_true (is_allowing p.found) p.passes)
+
+-- what the two tests say of the rule that is settled
+tested : (test : Rule → Bool) (h : Head) (front : List ℕ)
+    → (is_some_rule test (settled_rule h front) ≡ true) ↔ ((r : Rule) × IsSettled h r front false × (test r ≡ true))
+tested test h front = (
+  (λ is.
+      let p = passes_from test (settled_rule h front) is in
+      (p.found, (settled_is_computed h front p.found).1 p.is, p.passes)),
+  (λ s. ap (is_some_rule test) ((settled_is_computed h front s.0).0 s.1) ∙ s.2),
+)
+
+not_false : (b : Bool) → b ≡ false → not b ≡ true
+not_false b is = ap not is
+
+pub sent-settled : (h : Head) (front : List ℕ)
+    → (is_sent h front ≡ true) ↔ ((r : Rule) × IsSettled h r front false × (is_allowing r ≡ true))
+unfolding is_sent
+sent-settled h front = tested is_allowing h front
+
+pub hopeless-settled : (h : Head) (front : List ℕ)
+    → (is_hopeless h front ≡ true) ↔ ((r : Rule) × IsSettled h r front false × (is_allowing r ≡ false))
+unfolding is_hopeless
+hopeless-settled h front =
+    let t = tested (λ r. not (is_allowing r)) h front in (
+      (λ is. let s = t.0 is in (s.0, s.1, not_true (is_allowing s.0) s.2)),
+      (λ s. t.1 (s.0, s.1, not_false (is_allowing s.0) s.2)),
+    )
 
 -- the settled rule of a full window, and of one that isn't
 full_halves : (a w : Option Rule) (f : Bool) → f ≡ true → option_or a (if f then w else None) ≡ option_or a w

@@ -23,6 +23,15 @@ pub fn settled_is_computed()
     ensures { (h : Head) (front : List ℕ) (r : Rule) → IsSettled h r front false ↔ (settled_rule h front ≡ Some r) }
 {}
 
+/// Law: a body may be passed on exactly where its front settles a rule that allows, and a response is
+/// hopeless exactly where it settles one that blocks.
+pub fn judgement_is_settled()
+    ensures sent { (h : Head) (front : List ℕ)
+        → (is_sent h front ≡ true) ↔ ((r : Rule) × IsSettled h r front false × (is_allowing r ≡ true)) }
+    ensures hopeless { (h : Head) (front : List ℕ)
+        → (is_hopeless h front ≡ true) ↔ ((r : Rule) × IsSettled h r front false × (is_allowing r ≡ false)) }
+{}
+
 /// Law: a rule that a front settles is settled by every longer front, and decides every body that
 /// begins so.
 pub fn settled_is_for_good()

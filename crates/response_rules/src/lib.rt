@@ -23,8 +23,8 @@ mod verdicts;
 
 pub use deciding::Decider;
 pub use laws::{
-    hopeless_is_for_good, one_essence, open_body_is_short, rule_is_computed, sent_is_for_good,
-    settled_is_computed, settled_is_for_good,
+    hopeless_is_for_good, judgement_is_settled, one_essence, open_body_is_short, rule_is_computed,
+    sent_is_for_good, settled_is_computed, settled_is_for_good,
 };
 pub use rules::Rule;
 pub use verdicts::{Policy, Progress, Verdict};
