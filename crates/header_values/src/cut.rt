@@ -26,7 +26,11 @@ mod tests {
 
     #[test]
     fn commas_outside_of_strings_cut(rt: HostRuntime) {
-        let rows: [(&str, &[&str]); 12] = [
+        let rows: [(&str, &[&str]); 13] = [
+            (
+                "text/html;x=\"a,b, c\", text/css",
+                &["text/html;x=\"a,b, c\"", "text/css"],
+            ),
             ("", &[""]),
             (",", &["", ""]),
             ("a,\"b,", &["a", "\"b,"]),

@@ -1,7 +1,8 @@
 //! Heads through [`read_request`] and [`read_response`], with what is owed of each.
-use crate::{BadKind, BodyFrame, RequestHead, read_request, read_response};
+use crate::{BadKind, BodyFrame, RequestHead, head_end, read_request, read_response};
 use arrayvec::ArrayVec;
 use header_values::Scratch;
+use std::alloc::Global;
 use std::test::Fail;
 
 /// A request that is neither opaque nor for media, and has no id.
@@ -153,6 +154,40 @@ fn responses_are_framed_or_refused_in_their_order(rt: HostRuntime) -> Result<(),
             Err(kind) => Err(kind),
         };
         assert_eq!(rt; frame, owed, "{head:?}");
+    }
+    Ok(())
+}
+
+/// A response head with so many fields, the first with a value of so many bytes.
+fn response_head(alloc: Global, fields: usize, value: usize) -> Result<Vec<u8>, Fail> {
+    let mut head = b"HTTP/1.1 200 OK\r\nX: ".to_vec(alloc)?;
+    for _ in 0..value {
+        head.push(b'a')?;
+    }
+    for _ in 1..fields {
+        head.extend_from_slice(b"\r\nX: a")?;
+    }
+    head.extend_from_slice(b"\r\n\r\n")?;
+    Ok(head)
+}
+
+#[test]
+fn heads_are_read_up_to_their_limits(rt: HostRuntime) -> Result<(), Fail> {
+    let cases = [
+        (128, 1, Ok(BodyFrame::ToEnd)),
+        (129, 1, Err(BadKind::BadHead)),
+        (1, 65_512, Ok(BodyFrame::ToEnd)),
+    ];
+    for (fields, value, owed) in cases {
+        let head = response_head(rt.alloc(), fields, value)?;
+        assert_eq!(rt; head_end(&head), Some(head.len()));
+        let mut scratch = Scratch::open(rt.alloc(), head.len())?;
+        let mut spans = ArrayVec::new();
+        let frame = match read_response(&head, false, &mut spans, &mut scratch) {
+            Ok(response) => Ok(response.frame),
+            Err(kind) => Err(kind),
+        };
+        assert_eq!(rt; frame, owed, "{fields} fields");
     }
     Ok(())
 }
