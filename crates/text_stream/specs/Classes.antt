@@ -1,0 +1,81 @@
+-- The classes of characters of scripts (ECMA-262 5.1, sections 7.2, 7.3 and 7.6), over the general
+-- categories of the Unicode Standard. A character is a Unicode scalar value.
+use Rattle.std.specs.Prelude.{ℕ, Bool, true, false, ◌||◌, ◌&&◌, ◌==◌, nat_le, if◌then◌else◌}
+use Rattle.ucd_category.specs.GeneralCategory.{general_category}
+use Rattle.ucd_category.specs.declared.GeneralCategory.{GeneralCategory}
+use Rattle.ucd_category.specs.declared.GeneralCategory.TheVariants.{UppercaseLetter, LowercaseLetter, TitlecaseLetter, ModifierLetter, OtherLetter, NonspacingMark, SpacingMark, DecimalNumber, LetterNumber, ConnectorPunctuation, SpaceSeparator}
+use Rattle.text_stream.specs.declared.classes.CharClass.{CharClass}
+use Rattle.text_stream.specs.declared.classes.CharClass.TheVariants.{LineEnd, Space, NameStart, NamePart, Other}
+
+-- LineTerminator (section 7.3): LF, CR, and the separators of lines and of paragraphs
+abbrev pub is_line_terminator : ℕ → Bool
+is_line_terminator c = ((c == 0x000A) || (c == 0x000D)) || ((c == 0x2028) || (c == 0x2029))
+
+-- Zs
+abbrev pub is_space_separator : GeneralCategory → Bool
+is_space_separator SpaceSeparator = true
+is_space_separator _ = false
+
+-- WhiteSpace (section 7.2) by name: TAB, VT, FF, SP, NBSP, BOM
+abbrev pub is_named_space : ℕ → Bool
+is_named_space c =
+    (((c == 0x0009) || (c == 0x000B)) || ((c == 0x000C) || (c == 0x0020))) || ((c == 0x00A0) || (c == 0xFEFF))
+
+-- UnicodeLetter (section 7.6): Lu, Ll, Lt, Lm, Lo, Nl
+abbrev pub is_letter : GeneralCategory → Bool
+is_letter UppercaseLetter = true
+is_letter LowercaseLetter = true
+is_letter TitlecaseLetter = true
+is_letter ModifierLetter = true
+is_letter OtherLetter = true
+is_letter LetterNumber = true
+is_letter _ = false
+
+-- UnicodeCombiningMark, UnicodeDigit and UnicodeConnectorPunctuation (section 7.6): Mn, Mc, Nd, Pc
+abbrev pub is_mark_digit_or_connector : GeneralCategory → Bool
+is_mark_digit_or_connector NonspacingMark = true
+is_mark_digit_or_connector SpacingMark = true
+is_mark_digit_or_connector DecimalNumber = true
+is_mark_digit_or_connector ConnectorPunctuation = true
+is_mark_digit_or_connector _ = false
+
+-- one code unit of UTF-16 writes the character
+abbrev pub is_one_unit : ℕ → Bool
+is_one_unit c = nat_le c 0xFFFF
+
+-- each set below is of characters of one category
+abbrev pub is_white_space_of : GeneralCategory → ℕ → Bool
+is_white_space_of category c = is_named_space c || is_space_separator category
+
+-- IdentifierStart without escapes: a letter, `$`, `_`
+abbrev pub is_name_start_of : GeneralCategory → ℕ → Bool
+is_name_start_of category c =
+    is_one_unit c && (is_letter category || ((c == 0x0024) || (c == 0x005F)))
+
+-- IdentifierPart without escapes that is no IdentifierStart: marks, digits, connectors, ZWNJ, ZWJ
+abbrev pub is_further_part_of : GeneralCategory → ℕ → Bool
+is_further_part_of category c =
+    is_one_unit c && (is_mark_digit_or_connector category || ((c == 0x200C) || (c == 0x200D)))
+
+-- the class of a character of the category
+abbrev pub class_in : GeneralCategory → ℕ → CharClass
+class_in category c =
+    if is_line_terminator c then LineEnd
+    else if is_white_space_of category c then Space
+    else if is_name_start_of category c then NameStart
+    else if is_further_part_of category c then NamePart
+    else Other
+
+-- the sets of the standard, of which the classes are parts that have nothing in common
+abbrev pub is_white_space : ℕ → Bool
+is_white_space c = is_white_space_of (general_category c) c
+
+abbrev pub is_name_start : ℕ → Bool
+is_name_start c = is_name_start_of (general_category c) c
+
+abbrev pub is_name_part : ℕ → Bool
+is_name_part c = is_name_start c || is_further_part_of (general_category c) c
+
+-- the class of a character
+unfoldable pub class_of : ℕ → CharClass
+class_of c = class_in (general_category c) c
