@@ -1,6 +1,13 @@
 //! Text: the characters that bytes are, and the classes of characters that scripts tell apart.
+//!
+//! `specs/Decoding` defines the characters of bytes as UTF-8, and `specs/Classes` the classes. A
+//! broken sequence reads as one U+FFFD for each of its bytes, so that what a byte reads as never
+//! hangs on more than the three bytes behind it. Only [`decode_slice`] and [`TextRoom::open`] take
+//! memory.
 #![tactic(auto)]
 
 mod classes;
+mod decoding;
 
 pub use classes::{CharClass, class_of};
+pub use decoding::{NoMemory, TextRoom, decode_slice};

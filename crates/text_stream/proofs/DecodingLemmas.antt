@@ -1,0 +1,39 @@
+-- Reading one character at the front, and then the rest.
+use Rattle.std.proofs.Common.{◌≡◌, ℕ, zero, suc, ◌+◌, ◌-◌, ◌<◌, length, List, [], ◌∷◌, ◌++◌, drop, Some, refl, sym, ap, ◌∙◌, arith, append_assoc, append-nil, add-one}
+use Rattle.bstr.specs.Utf8.{decoded, or_replacement}
+use Rattle.bstr.proofs.lemmas.PieceLemmas.{piece-bounds}
+use Rattle.text_stream.specs.Decoding.{further_bytes, further_bytes_of, characters_behind}
+
+-- a sequence has its first byte and the further ones
+pub size-of_sequence : (bytes : List ℕ) (c : ℕ) → 0 < length bytes → (decoded bytes).char ≡ Some c → (decoded bytes).size ≡ further_bytes (decoded bytes) + 1
+size-of_sequence bytes c some is =
+    let bounds = piece-bounds bytes some in
+    let further : further_bytes (decoded bytes) ≡ (decoded bytes).size - 1 = ap (λ o. further_bytes_of o (decoded bytes).size) is in
+    omega (arith, bounds.0, further)
+
+pub characters_behind-drop : (n : ℕ) (bytes : List ℕ) → characters_behind n bytes ≡ characters_behind 0 (drop n bytes)
+unfolding characters_behind
+characters_behind-drop zero [] = refl
+characters_behind-drop (suc n) [] = refl
+characters_behind-drop zero (b ∷ bytes) = refl
+characters_behind-drop (suc n) (b ∷ bytes) = characters_behind-drop n bytes
+
+-- the first character, and those of what is behind its bytes
+pub characters_behind-first : (bytes : List ℕ) → 0 < length bytes → characters_behind 0 bytes ≡ or_replacement (decoded bytes).char ∷ characters_behind 0 (drop (suc (further_bytes (decoded bytes))) bytes)
+unfolding characters_behind
+characters_behind-first [] some = absurd (omega arith)
+characters_behind-first (b ∷ bytes) some =
+    ap (λ text. or_replacement (decoded (b ∷ bytes)).char ∷ text) (characters_behind-drop (further_bytes (decoded (b ∷ bytes))) bytes)
+
+-- one character more is read
+pub reads_on : (read whole bytes : List ℕ) (c size : ℕ) → 0 < length bytes → c ≡ or_replacement (decoded bytes).char → size ≡ further_bytes (decoded bytes) + 1 → read ++ characters_behind 0 bytes ≡ whole → (read ++ (c ∷ [])) ++ characters_behind 0 (drop size bytes) ≡ whole
+reads_on read whole bytes c size some is_first takes so_far =
+    let first : c ∷ characters_behind 0 (drop size bytes) ≡ characters_behind 0 bytes =
+    rw (is_first, takes, add-one) (sym (characters_behind-first bytes some)) in
+    append_assoc read (c ∷ []) (characters_behind 0 (drop size bytes)) ∙ ap (λ text. read ++ text) first ∙ so_far
+
+-- all is read
+pub all_read : (read whole bytes : List ℕ) → length bytes ≡ 0 → read ++ characters_behind 0 bytes ≡ whole → read ≡ whole
+unfolding characters_behind
+all_read read whole [] none so_far = sym (append-nil read) ∙ so_far
+all_read read whole (b ∷ bytes) none so_far = absurd (omega arith)

@@ -1,0 +1,131 @@
+//! The characters of bytes (The Unicode Standard, Table 3-7), a whole text at a time.
+//!
+//! `bstr` reads the one character at the front of some bytes. Its own way of reading a whole text
+//! isn't taken, because that gives one U+FFFD for as much of a broken sequence as could have been
+//! one, where the definition gives one for each byte.
+ghost use Rattle.std.specs.Prelude.{◌≡◌, ◌+◌, ◌<◌, ◌≤◌, ◌∷◌, ◌++◌, [], IfOk, length, vec_len, vec_capacity};
+ghost use Rattle.bstr.specs.Utf8.{decoded, or_replacement};
+ghost use Rattle.text_stream.specs.Decoding.{characters_behind, characters_of, further_bytes, without_mark};
+
+use bstr::decode_utf8;
+use std::alloc::Global;
+use std::marker::Model;
+
+/// Want of memory.
+#[derive(Clone, Copy, Debug, PartialEq, Eq)]
+pub struct NoMemory;
+
+const BYTE_ORDER_MARK: &[u8] = b"\xEF\xBB\xBF";
+
+/// The characters of the bytes. [`NoMemory`] where there is no memory for one character a byte.
+#[tactic(auto, unfolding(crate::specs::Decoding::characters_of))]
+pub fn decode_slice(alloc: Global, bytes: &[u8]) -> Result<Vec<char>, NoMemory>
+    ensures { IfOk result (λ text. text.items ≡ characters_of bytes.now) }
+{
+    match Vec::with_capacity(alloc, bytes.len()) {
+        Ok(mut text) => {
+            append_characters(&mut text, without_mark(bytes));
+            Ok(text)
+        }
+        Err(_) => Err(NoMemory),
+    }
+}
+
+/// Room that is reserved once, for the characters of one text at a time.
+#[derive(Drop)]
+pub struct TextRoom {
+    text: Vec<char>,
+    room: usize,
+}
+
+impl Model for TextRoom {
+    ghost use Rattle.std.specs.Prelude.{ℕ, ◌≤◌, vec_capacity};
+
+    ghost Value = { ℕ };
+
+    // The characters of how many bytes it has room for.
+    ghost view = { λ r. r.room };
+
+    ghost invariant = { λ r. r.room ≤ vec_capacity r.text };
+}
+
+impl TextRoom {
+    ghost use Rattle.std.specs.Borrow.{sem};
+    ghost use Rattle.text_stream.specs.Lending.{KeepsRoom};
+
+    /// Reserves one character for each of `bytes` bytes; [`NoMemory`] where that much memory can't
+    /// be had.
+    pub fn open(alloc: Global, bytes: usize) -> Result<TextRoom, NoMemory>
+        ensures { IfOk result (λ room. room ≡ bytes) }
+    {
+        match Vec::with_capacity(alloc, bytes) {
+            Ok(text) => Ok(TextRoom { text, room: bytes }),
+            Err(_) => Err(NoMemory),
+        }
+    }
+
+    /// The characters of the bytes, of which there are at most as many as were reserved for. It
+    /// takes no memory.
+    #[tactic(auto, unfolding(crate::specs::Decoding::characters_of))]
+    pub fn decode(&mut self, bytes: &[u8]) -> &[char]
+        requires { length bytes.now ≤ self.old }
+        ensures value { result.now ≡ characters_of bytes.now }
+        ensures* kept { sem 𝓛 (KeepsRoom self.entry) }
+    {
+        self.text.clear();
+        append_characters(&mut self.text, without_mark(bytes));
+        self.text.as_slice()
+    }
+}
+
+/// The bytes without one byte order mark at their front.
+fn without_mark(bytes: &[u8]) -> &[u8]
+    ensures value { result.now ≡ without_mark bytes.now }
+    ensures within { length result.now ≤ length bytes.now }
+{
+    if bytes.starts_with(BYTE_ORDER_MARK) {
+        &bytes[BYTE_ORDER_MARK.len()..]
+    } else {
+        bytes
+    }
+}
+
+/// Appends the characters of the bytes, for which there is room.
+fn append_characters(text: &mut Vec<char>, bytes: &[u8])
+    requires { vec_len text.old + length bytes.now ≤ vec_capacity text.old }
+    ensures items { text.new.items ≡ text.old.items ++ characters_behind 0 bytes.now }
+    ensures capacity { vec_capacity text.old ≤ vec_capacity text.new }
+{
+    let mut rest = bytes;
+    'reading: while !rest.is_empty() {
+        let (c, size) = first_character(rest);
+        append(text, c);
+        rest = rest.split_at(size).1;
+    }
+}
+
+/// The character at the front of the bytes, and how many of them it takes.
+fn first_character(bytes: &[u8]) -> (char, usize)
+    requires { 0 < length bytes.now }
+    ensures character { result.0 ≡ or_replacement (decoded bytes.now).char }
+    ensures size { result.1 ≡ further_bytes (decoded bytes.now) + 1 }
+    ensures within { result.1 ≤ length bytes.now }
+{
+    match decode_utf8(bytes) {
+        (Some(c), size) => (c, size),
+        (None, _) => (char::REPLACEMENT_CHARACTER, 1),
+    }
+}
+
+/// Appends the character, for which there is room.
+fn append(text: &mut Vec<char>, c: char)
+    requires { vec_len text.old < vec_capacity text.old }
+    ensures items { text.new.items ≡ text.old.items ++ (c ∷ []) }
+    ensures len { vec_len text.new ≡ vec_len text.old + 1 }
+    ensures capacity { vec_capacity text.old ≤ vec_capacity text.new }
+{
+    match text.push(c) {
+        Ok(()) => {}
+        Err(_) => unreachable!(),
+    }
+}
