@@ -1,0 +1,5 @@
+mod Completeness
+mod LoopLemmas
+mod Soundness
+mod Tools
+mod VerdictLemmas
