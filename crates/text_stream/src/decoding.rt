@@ -129,3 +129,63 @@ fn append(text: &mut Vec<char>, c: char)
         Err(_) => unreachable!(),
     }
 }
+
+#[cfg(test)]
+mod tests {
+    use super::*;
+    use std::test::Fail;
+
+    #[test]
+    fn bytes_are_read_as_characters(rt: HostRuntime) -> Result<(), Fail> {
+        let rows: [(&[u8], &[char]); 20] = [
+            (b"", &[]),
+            (b"a\0\x7f", &['a', '\0', '\u{7F}']),
+            (b"\xC3\xA9\xE2\x80\xA8", &['\u{E9}', '\u{2028}']),
+            (b"\xF0\x9F\x98\x80", &['\u{1F600}']),
+            (b"\xF4\x8F\xBF\xBF\xEF\xBF\xBD", &['\u{10FFFF}', '\u{FFFD}']),
+            // one byte order mark is dropped
+            (b"\xEF\xBB\xBFa", &['a']),
+            (b"\xEF\xBB\xBF", &[]),
+            (b"\xEF\xBB\xBF\xEF\xBB\xBF1", &['\u{FEFF}', '1']),
+            (b"a\xEF\xBB\xBF", &['a', '\u{FEFF}']),
+            // sequences that break off
+            (b"\xF0\x9F\x98A", &['\u{FFFD}', '\u{FFFD}', '\u{FFFD}', 'A']),
+            (b"\xEF\xBB", &['\u{FFFD}', '\u{FFFD}']),
+            (b"\xE2\x80\xC3\xA9", &['\u{FFFD}', '\u{FFFD}', '\u{E9}']),
+            // bytes that begin nothing
+            (b"\x80a\xBF", &['\u{FFFD}', 'a', '\u{FFFD}']),
+            (b"\xF5\xFF", &['\u{FFFD}', '\u{FFFD}']),
+            // overlong forms
+            (b"\xC0\x80", &['\u{FFFD}', '\u{FFFD}']),
+            (b"\xE0\x9F\xBF", &['\u{FFFD}', '\u{FFFD}', '\u{FFFD}']),
+            (
+                b"\xF0\x8F\xBF\xBF",
+                &['\u{FFFD}', '\u{FFFD}', '\u{FFFD}', '\u{FFFD}'],
+            ),
+            // a surrogate, and what is past the last code point
+            (b"\xED\xA0\x80", &['\u{FFFD}', '\u{FFFD}', '\u{FFFD}']),
+            (b"\xED\x9F\xBF", &['\u{D7FF}']),
+            (
+                b"\xF4\x90\x80\x80",
+                &['\u{FFFD}', '\u{FFFD}', '\u{FFFD}', '\u{FFFD}'],
+            ),
+        ];
+        for (bytes, characters) in rows {
+            let text = decode_slice(rt.alloc(), bytes)?;
+            assert!(rt; text.as_slice() == characters, "{bytes:?}");
+            let mut room = TextRoom::open(rt.alloc(), bytes.len())?;
+            assert!(rt; room.decode(bytes) == characters, "{bytes:?} in a room");
+        }
+        Ok(())
+    }
+
+    #[test]
+    fn a_room_takes_one_text_after_another(rt: HostRuntime) -> Result<(), Fail> {
+        let mut room = TextRoom::open(rt.alloc(), 4)?;
+        assert!(rt; room.decode(b"abcd") == ['a', 'b', 'c', 'd'].as_slice());
+        assert!(rt; room.decode(b"\xEF\xBB\xBFe") == ['e'].as_slice());
+        assert!(rt; room.decode(b"").is_empty());
+        assert!(rt; room.decode(b"\xFF\xFF\xFF\xFF") == ['\u{FFFD}'; 4].as_slice());
+        Ok(())
+    }
+}
