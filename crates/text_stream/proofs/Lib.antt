@@ -1,2 +1,2 @@
-mod ClassLemmas
+pub mod ClassLemmas
 mod DecodingLemmas

@@ -1,6 +1,6 @@
 -- The classes of characters of scripts (ECMA-262 5.1, sections 7.2, 7.3 and 7.6), over the general
 -- categories of the Unicode Standard. A character is a Unicode scalar value.
-use Rattle.std.specs.Prelude.{ℕ, Bool, true, false, ◌||◌, ◌&&◌, ◌==◌, nat_le, if◌then◌else◌}
+use Rattle.std.specs.Prelude.{◌≡◌, ◌↔◌, ◌⊎◌, ℕ, IsTrue, Bool, true, false, ◌||◌, ◌&&◌, ◌==◌, nat_le, if◌then◌else◌}
 use Rattle.ucd_category.specs.GeneralCategory.{general_category}
 use Rattle.ucd_category.specs.declared.GeneralCategory.{GeneralCategory}
 use Rattle.ucd_category.specs.declared.GeneralCategory.TheVariants.{UppercaseLetter, LowercaseLetter, TitlecaseLetter, ModifierLetter, OtherLetter, NonspacingMark, SpacingMark, DecimalNumber, LetterNumber, ConnectorPunctuation, SpaceSeparator}
@@ -79,3 +79,10 @@ is_name_part c = is_name_start c || is_further_part_of (general_category c) c
 -- the class of a character
 unfoldable pub class_of : ℕ → CharClass
 class_of c = class_in (general_category c) c
+
+-- each class is the standard's set, and a name part is of one of two
+pub record IsOfItsSets (c : ℕ) : Type 0 where
+  pub line_end : (class_of c ≡ LineEnd) ↔ IsTrue (is_line_terminator c)
+  pub space : (class_of c ≡ Space) ↔ IsTrue (is_white_space c)
+  pub name_start : (class_of c ≡ NameStart) ↔ IsTrue (is_name_start c)
+  pub name_part : ((class_of c ≡ NameStart) ⊎ (class_of c ≡ NamePart)) ↔ IsTrue (is_name_part c)

@@ -1,8 +1,9 @@
 -- The characters that bytes are as UTF-8 (The Unicode Standard, Table 3-7). Where no well-formed
 -- sequence begins, the one byte there reads as U+FFFD, and reading goes on behind that byte. A byte
 -- order mark at the very start (section 23.8) is dropped; only the first is.
-use Rattle.std.specs.Prelude.{ℕ, zero, suc, ◌-◌, List, [], ◌∷◌, Option, Some, None, drop, nat_eq, if◌then◌else◌}
+use Rattle.std.specs.Prelude.{◌≡◌, ℕ, true, ◌++◌, encode_utf8_all, zero, suc, ◌-◌, List, [], ◌∷◌, Option, Some, None, drop, nat_eq, if◌then◌else◌}
 use Rattle.std.specs.List.{starts_with}
+use lib.Utf8.{scalars}
 use Rattle.bstr.specs.Utf8.{Decoded, decoded, or_replacement}
 
 -- how many bytes behind its first the sequence has that begins there: none where none does
@@ -30,3 +31,8 @@ without_mark bytes = if starts_with nat_eq bytes byte_order_mark then drop 3 byt
 -- the characters of a whole text
 unfoldable pub characters_of : List ℕ → List ℕ
 characters_of bytes = characters_behind 0 (without_mark bytes)
+
+-- well-formed text reads as the characters that it writes, whatever follows it
+abbrev pub ReadsAsWritten : List ℕ → List ℕ → Type 0
+ReadsAsWritten text bytes =
+    scalars text ≡ true → characters_behind 0 (encode_utf8_all text ++ bytes) ≡ text ++ characters_behind 0 bytes

@@ -8,6 +8,8 @@
 
 mod classes;
 mod decoding;
+mod laws;
 
 pub use classes::{CharClass, class_of};
 pub use decoding::{NoMemory, TextRoom, decode_slice};
+pub use laws::{classes_are_sets, text_reads_as_written};
