@@ -43,7 +43,7 @@ is_mark_digit_or_connector _ = false
 abbrev pub is_one_unit : ℕ → Bool
 is_one_unit c = nat_le c 0xFFFF
 
--- each set below is of characters of one category
+-- the sets, with the general category of the character given
 abbrev pub is_white_space_of : GeneralCategory → ℕ → Bool
 is_white_space_of category c = is_named_space c || is_space_separator category
 
@@ -52,7 +52,8 @@ abbrev pub is_name_start_of : GeneralCategory → ℕ → Bool
 is_name_start_of category c =
     is_one_unit c && (is_letter category || ((c == 0x0024) || (c == 0x005F)))
 
--- IdentifierPart without escapes that is no IdentifierStart: marks, digits, connectors, ZWNJ, ZWJ
+-- what IdentifierPart without escapes has beside IdentifierStart: marks, digits, connectors (`_` is
+-- one), ZWNJ, ZWJ
 abbrev pub is_further_part_of : GeneralCategory → ℕ → Bool
 is_further_part_of category c =
     is_one_unit c && (is_mark_digit_or_connector category || ((c == 0x200C) || (c == 0x200D)))
@@ -66,7 +67,7 @@ class_in category c =
     else if is_further_part_of category c then NamePart
     else Other
 
--- the sets of the standard, of which the classes are parts that have nothing in common
+-- the sets of the standard
 abbrev pub is_white_space : ℕ → Bool
 is_white_space c = is_white_space_of (general_category c) c
 

@@ -137,7 +137,7 @@ mod tests {
 
     #[test]
     fn bytes_are_read_as_characters(rt: HostRuntime) -> Result<(), Fail> {
-        let rows: [(&[u8], &[char]); 20] = [
+        let rows: [(&[u8], &[char]); 21] = [
             (b"", &[]),
             (b"a\0\x7f", &['a', '\0', '\u{7F}']),
             (b"\xC3\xA9\xE2\x80\xA8", &['\u{E9}', '\u{2028}']),
@@ -145,6 +145,7 @@ mod tests {
             (b"\xF4\x8F\xBF\xBF\xEF\xBF\xBD", &['\u{10FFFF}', '\u{FFFD}']),
             // one byte order mark is dropped
             (b"\xEF\xBB\xBFa", &['a']),
+            (b"\xEF\xBB\xBF1", &['1']),
             (b"\xEF\xBB\xBF", &[]),
             (b"\xEF\xBB\xBF\xEF\xBB\xBF1", &['\u{FEFF}', '1']),
             (b"a\xEF\xBB\xBF", &['a', '\u{FEFF}']),
