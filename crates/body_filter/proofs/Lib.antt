@@ -1,0 +1,9 @@
+pub mod ChunkLemmas
+pub mod CutLemmas
+pub mod DigitLemmas
+pub mod WriteLemmas
+pub mod PutLemmas
+pub mod ReplyLemmas
+pub mod FilterLemmas
+pub mod LawLemmas
+pub mod PhaseLemmas
