@@ -1,7 +1,7 @@
 -- Chunks, body after body.
-use Rattle.std.proofs.Common.{◌≡◌, ℕ, zero, suc, ◌+◌, ◌*◌, ◌/◌, ◌%◌, ◌-◌, ◌<◌, ◌≤◌, List, [], ◌∷◌, ◌++◌, length, take, drop, refl, sym, ap, ◌∙◌, arith, false, append_assoc, length-append, length-drop}
+use Rattle.std.proofs.Common.{◌≡◌, ℕ, zero, suc, ◌+◌, ◌*◌, ◌/◌, ◌%◌, ◌<◌, ◌≤◌, List, [], ◌∷◌, ◌++◌, length, take, drop, refl, sym, ap, ◌∙◌, arith, false, append_assoc, length-append, length-drop}
 use Rattle.std.proofs.lemmas.List.{take-append-le, drop-append-le, append-nil}
-use Rattle.std.proofs.Math.Nat.{div-eq_of_lt, mul-add-div, div-add-mod}
+use Rattle.std.proofs.Math.Nat.{div-eq_of_lt, mul-add-div}
 use Rattle.std.proofs.Math.Seq.{take-length, drop-length, drop-nil}
 use Rattle.std.specs.Fmt.{digits}
 use Rattle.body_filter.specs.Chunks.{chunk_size, crlf, chunk, full_chunks, count_full, rest_of, rest_chunk, last_chunk}
@@ -19,14 +19,14 @@ full_chunks-append (suc n) a b fits =
     let first : 1024 ≤ length a = omega arith in
     let others : 1024 * n ≤ length (drop 1024 a) = omega (arith, length-drop 1024 a) in
     rw (take-append-le 1024 a b first, drop-append-le 1024 a b first)
-        (ap (λ t. chunk (take 1024 a) ++ t) (full_chunks-append n (drop 1024 a) b others))
+    (ap (λ t. chunk (take 1024 a) ++ t) (full_chunks-append n (drop 1024 a) b others))
 
 pub full_chunks-more : (n k : ℕ) (a : List ℕ) → full_chunks (n + k) a ≡ full_chunks n a ++ full_chunks k (drop (1024 * n) a)
 unfolding chunk_size
 full_chunks-more zero k a = ap (λ j. full_chunks j a) (let e : zero + k ≡ k = omega arith in e)
 full_chunks-more (suc n) k a =
     let same : drop (1024 * suc n) a ≡ drop (1024 * n) (drop 1024 a) =
-        ap (λ j. drop j a) (let e : 1024 * suc n ≡ 1024 + 1024 * n = omega arith in e) ∙ drop_more 1024 (1024 * n) a in
+    ap (λ j. drop j a) (let e : 1024 * suc n ≡ 1024 + 1024 * n = omega arith in e) ∙ drop_more 1024 (1024 * n) a in
     ap (λ j. full_chunks j a) (let e : suc n + k ≡ suc (n + k) = omega arith in e)
     ∙ (ap (λ t. chunk (take 1024 a) ++ t) (full_chunks-more n k (drop 1024 a))
     ∙ (sym (append_assoc (chunk (take 1024 a)) (full_chunks n (drop 1024 a)) (full_chunks k (drop (1024 * n) (drop 1024 a))))
@@ -57,8 +57,8 @@ pub count-on : (m p : List ℕ) → count_full (m ++ p) ≡ count_full m + count
 unfolding chunk_size
 count-on m p =
     ap (λ n. n / 1024)
-        (let e : length (m ++ p) ≡ 1024 * (length m / 1024) + length (rest_of m ++ p) =
-            omega (arith, length-append m p, length-append (rest_of m) p, length-drop (1024 * (length m / 1024)) m) in e)
+    (let e : length (m ++ p) ≡ 1024 * (length m / 1024) + length (rest_of m ++ p) =
+    omega (arith, length-append m p, length-append (rest_of m) p, length-drop (1024 * (length m / 1024)) m) in e)
     ∙ count_by (count_full m) (length (rest_of m ++ p))
 
 pub chunks-on : (m p : List ℕ) → full_chunks (count_full (m ++ p)) (m ++ p)
@@ -67,15 +67,15 @@ chunks-on m p =
     ap (λ n. full_chunks n (m ++ p)) (count-on m p)
     ∙ (full_chunks-more (count_full m) (count_full (rest_of m ++ p)) (m ++ p)
     ∙ (ap (λ t. t ++ full_chunks (count_full (rest_of m ++ p)) (drop (1024 * count_full m) (m ++ p)))
-        (full_chunks-append (count_full m) m p (full_fits m))
+    (full_chunks-append (count_full m) m p (full_fits m))
     ∙ ap (λ t. full_chunks (count_full m) m ++ full_chunks (count_full (rest_of m ++ p)) t) (rest_before m p)))
 
 pub rest-on : (m p : List ℕ) → rest_of (m ++ p) ≡ rest_of (rest_of m ++ p)
 unfolding chunk_size
 rest-on m p =
     ap (λ n. drop n (m ++ p))
-        (let e : 1024 * count_full (m ++ p) ≡ 1024 * count_full m + 1024 * count_full (rest_of m ++ p) =
-            omega (arith, count-on m p) in e)
+    (let e : 1024 * count_full (m ++ p) ≡ 1024 * count_full m + 1024 * count_full (rest_of m ++ p) =
+    omega (arith, count-on m p) in e)
     ∙ (drop_more (1024 * count_full m) (1024 * count_full (rest_of m ++ p)) (m ++ p)
     ∙ ap (drop (1024 * count_full (rest_of m ++ p))) (rest_before m p))
 
@@ -116,7 +116,7 @@ pub chunk-full : (front back : List ℕ) → length front + length back ≡ 1024
 unfolding chunk
 chunk-full front back full =
     ap (λ d. d ++ (crlf ++ ((front ++ back) ++ crlf)))
-        (sym (ap (digits 16 false) (length-append front back ∙ full) ∙ size_line))
+    (sym (ap (digits 16 false) (length-append front back ∙ full) ∙ size_line))
 
 pub chunk-last : (rest : List ℕ)
     → ((digits 16 false (length rest) ++ (13 ∷ 10 ∷ [])) ++ rest) ++ (13 ∷ 10 ∷ 48 ∷ 13 ∷ 10 ∷ 13 ∷ 10 ∷ []) ≡ chunk rest ++ last_chunk

@@ -1,5 +1,5 @@
 -- A piece that is cut into chunks.
-use Rattle.std.proofs.Common.{◌≡◌, ℕ, ◌+◌, ◌<◌, ◌≤◌, List, [], ◌++◌, length, take, drop, Option, refl, sym, ap, ◌∙◌, subst, arith, append_assoc, length-append}
+use Rattle.std.proofs.Common.{◌≡◌, ℕ, ◌+◌, ◌<◌, List, [], ◌++◌, length, take, drop, Option, refl, sym, ap, ◌∙◌, subst, arith, append_assoc, length-append}
 use Rattle.std.proofs.lemmas.List.{append-nil, take-append-drop}
 use Rattle.orb_io.specs.Told.{Gains, GainsPrefix, IsPrefix}
 use Rattle.orb_io.proofs.ToldLemmas.{Gains-twice, GainsPrefix-behind, GainsPrefix-longer}
@@ -32,7 +32,7 @@ one_more : (m rest bytes : List ℕ) → rest ≡ rest_of m → length rest + le
 one_more m rest bytes is full =
     chunks-on m bytes
     ∙ ap (λ t. chunks_of m ++ t)
-        (ap (λ r. chunks_of (r ++ bytes)) (sym is) ∙ chunks-one (rest ++ bytes) (length-append rest bytes ∙ full))
+    (ap (λ r. chunks_of (r ++ bytes)) (sym is) ∙ chunks-one (rest ++ bytes) (length-append rest bytes ∙ full))
 
 filled_up : (m rest bytes : List ℕ) → rest ≡ rest_of m → length rest + length bytes ≡ 1024 → rest_of (m ++ bytes) ≡ []
 filled_up m rest bytes is full =
@@ -54,7 +54,7 @@ cut-more a b c k m n kept piece left rest size cut full pushed =
       fills = sym (ap rest_of whole ∙ filled_up (kept ++ cut.done) rest bytes cut.fills full);
       gained = let P : List ℕ → Type 0 = λ t. Gains a c k n t in
           subst P (sym (ap chunks_of whole ∙ one_more (kept ++ cut.done) rest bytes cut.fills full))
-              (Gains-twice a b c k m n (chunks_of (kept ++ cut.done)) (chunk (rest ++ bytes)) cut.gained pushed);
+          (Gains-twice a b c k m n (chunks_of (kept ++ cut.done)) (chunk (rest ++ bytes)) cut.gained pushed);
     }
 
 whole_piece : (kept done left piece : List ℕ) → piece ≡ done ++ left → kept ++ piece ≡ (kept ++ done) ++ left
@@ -68,12 +68,12 @@ cut-fault a b c k m n kept piece left rest size cut full pushed =
     let behind = drop size left in
     let sent = kept ++ cut.done in
     let whole : kept ++ piece ≡ (sent ++ bytes) ++ behind =
-        whole_piece kept cut.done left piece cut.is
-        ∙ (ap (λ t. sent ++ t) (sym (take-append-drop size left)) ∙ sym (append_assoc sent bytes behind)) in
+    whole_piece kept cut.done left piece cut.is
+    ∙ (ap (λ t. sent ++ t) (sym (take-append-drop size left)) ∙ sym (append_assoc sent bytes behind)) in
     let within : IsPrefix (chunks_of sent ++ chunk (rest ++ bytes)) (chunks_of (kept ++ piece)) =
-        rw (← one_more sent rest bytes cut.fills full, whole) (chunks-longer (sent ++ bytes) behind) in
+    rw (← one_more sent rest bytes cut.fills full, whole) (chunks-longer (sent ++ bytes) behind) in
     GainsPrefix-longer a c k n (chunks_of sent ++ chunk (rest ++ bytes)) (chunks_of (kept ++ piece)) within
-        (GainsPrefix-behind a b c k m n (chunks_of sent) (chunk (rest ++ bytes)) cut.gained pushed)
+    (GainsPrefix-behind a b c k m n (chunks_of sent) (chunk (rest ++ bytes)) cut.gained pushed)
 
 pub cut-last : (a b : Option (List ℕ)) (k m : Option ℕ) (kept piece left rest : List ℕ)
     → Cut a b k m kept piece left rest → length rest + length left < 1024
@@ -83,11 +83,11 @@ cut-last a b k m kept piece left rest cut short =
     let short' : length (rest ++ left) < 1024 = omega (arith, length-append rest left) in
     let P : List ℕ → Type 0 = λ t. Gains a b k m t in
     subst P
-        (sym (ap chunks_of (whole_piece kept cut.done left piece cut.is)
-        ∙ (chunks-on sent left
-        ∙ (ap (λ t. chunks_of sent ++ t) (ap (λ r. chunks_of (r ++ left)) (sym cut.fills) ∙ chunks-short (rest ++ left) short')
-        ∙ append-nil (chunks_of sent)))))
-        cut.gained
+    (sym (ap chunks_of (whole_piece kept cut.done left piece cut.is)
+    ∙ (chunks-on sent left
+    ∙ (ap (λ t. chunks_of sent ++ t) (ap (λ r. chunks_of (r ++ left)) (sym cut.fills) ∙ chunks-short (rest ++ left) short')
+    ∙ append-nil (chunks_of sent)))))
+    cut.gained
 
 pub cut-rest : (a b : Option (List ℕ)) (k m : Option ℕ) (kept piece left rest : List ℕ)
     → Cut a b k m kept piece left rest → length rest + length left < 1024

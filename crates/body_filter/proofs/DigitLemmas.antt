@@ -1,8 +1,7 @@
 -- Hexadecimal digits.
-use Rattle.std.proofs.Common.{◌≡◌, ℕ, suc, ◌+◌, ◌/◌, ◌%◌, ◌^◌, ◌<◌, ◌≤◌, ◌==◌, Bool, true, false, cond, nat_lt, List, [], ◌∷◌, length, refl, sym, ap, ◌∙◌, arith}
+use Rattle.std.proofs.Common.{◌≡◌, ℕ, suc, ◌/◌, ◌%◌, ◌<◌, ◌≤◌, ◌==◌, Bool, true, false, nat_lt, List, [], ◌∷◌, length, refl, ap, ◌∙◌, arith}
 use Rattle.std.specs.Fmt.{digits, digits_onto, digit_glyph}
 use Rattle.std.proofs.lemmas.Bool.Decides.{nat_tests}
-use Rattle.std.proofs.Math.Nat.{div-eq_of_lt}
 
 -- the last digit, and the one before another
 last_by : (k n : ℕ) (acc : List ℕ) → n / 16 ≡ 0 → digits_onto (suc k) 16 false n acc ≡ digit_glyph false (n % 16) ∷ acc
@@ -33,7 +32,7 @@ three_digits n low high =
     ∙ (more_by 62 (n / 16) (digit_glyph false (n % 16) ∷ []) (omega arith)
     ∙ (last_by 61 (n / 16 / 16) (digit_glyph false (n / 16 % 16) ∷ digit_glyph false (n % 16) ∷ []) (omega arith)
     ∙ ap (λ d. digit_glyph false d ∷ digit_glyph false (n / 16 % 16) ∷ digit_glyph false (n % 16) ∷ [])
-        (let e : n / 16 / 16 % 16 ≡ n / 256 = omega arith in e)))
+    (let e : n / 16 / 16 % 16 ≡ n / 256 = omega arith in e)))
 
 pub three_at_most : (n : ℕ) → n < 4096 → length (digits 16 false n) ≤ 3
 three_at_most n high = first (nat_lt n 16) refl
@@ -41,6 +40,7 @@ three_at_most n high = first (nat_lt n 16) refl
     second : (b : Bool) → 16 ≤ n → nat_lt n 256 ≡ b → length (digits 16 false n) ≤ 3
     second true low is = omega (arith, ap length (two_digits n low (grind (arith, nat_tests, is))))
     second false low is = omega (arith, ap length (three_digits n (grind (arith, nat_tests, is)) high))
+
     first : (b : Bool) → nat_lt n 16 ≡ b → length (digits 16 false n) ≤ 3
     first true is = omega (arith, ap length (one_digit n (grind (arith, nat_tests, is))))
     first false is = second (nat_lt n 256) (grind (arith, nat_tests, is)) refl

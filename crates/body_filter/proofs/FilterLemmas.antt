@@ -1,5 +1,5 @@
 -- What a filter knows of a response.
-use Rattle.std.proofs.Common.{◌≡◌, ℕ, ◌+◌, ◌-◌, ◌<◌, ◌≤◌, Bool, true, false, not, ◌&&◌, ◌||◌, nat_lt, nat_le, List, [], ◌∷◌, ◌++◌, length, Option, Some, None, is_none, refl, sym, ap, ◌∙◌, subst, arith, length-append}
+use Rattle.std.proofs.Common.{◌≡◌, ℕ, ◌+◌, ◌-◌, ◌%◌, ◌<◌, ◌≤◌, Bool, true, false, not, ◌&&◌, ◌||◌, nat_lt, nat_le, List, [], ◌++◌, length, Option, Some, None, is_none, if◌then◌else◌, refl, sym, ap, ◌∙◌, arith, length-append}
 use Rattle.std.proofs.lemmas.List.{append-nil}
 use Rattle.std.proofs.lemmas.Option.{none-some}
 use Rattle.std.proofs.lemmas.Bool.Decides.{nat_tests}
@@ -7,11 +7,11 @@ use Rattle.response_rules.specs.declared.rules.Rule.{Rule}
 use Rattle.response_rules.specs.Rules.{is_allowing}
 use Rattle.response_rules.specs.Heads.{Head}
 use Rattle.response_rules.specs.Tables.{window_size, window_rule_of}
-use Rattle.response_rules.specs.Settled.{is_full, is_sent, is_hopeless, is_in_text, is_some_rule, settled_rule}
+use Rattle.response_rules.specs.Settled.{is_full, is_sent, is_hopeless, is_in_text}
 use Rattle.response_rules.proofs.TableLemmas.{rule_is_computed}
-use Rattle.response_rules.proofs.SettledLemmas.{settled-full, settled-whole, sent-longer, hopeless-longer, hopeless-unsent, hopeless-blocks, open-short}
-use Rattle.body_filter.specs.Chunks.{body_front}
-use Rattle.body_filter.specs.Exchanges.{Exchange, front_of, is_given_up}
+use Rattle.response_rules.proofs.SettledLemmas.{settled-full, settled-whole, hopeless-longer, hopeless-unsent, hopeless-blocks, open-short}
+use Rattle.body_filter.specs.Chunks.{chunk_size, body_front}
+use Rattle.body_filter.specs.Exchanges.{Exchange, front_of, is_given_up, held_of}
 
 -- nothing, or the head and the body
 pub front-unsent : (x : Exchange) (m : List ℕ) → is_sent x.head m ≡ false → front_of x m ≡ []
@@ -53,7 +53,7 @@ text-longer h m p is =
     let full : is_full m ≡ true = text-full h m is in
     let full' : is_full (m ++ p) ≡ true = full_longer m p full in
     let none : window_rule_of h (m ++ p) ≡ None =
-        sym (settled-whole h (m ++ p) full') ∙ (settled-full h m p full ∙ (settled-whole h m full ∙ text-no_rule h m is)) in
+    sym (settled-whole h (m ++ p) full') ∙ (settled-full h m p full ∙ (settled-whole h m full ∙ text-no_rule h m is)) in
     rw (full', none) refl
 
 pub text-unsent : (h : Head) (m : List ℕ) → is_in_text h m ≡ true → is_sent h m ≡ false
@@ -90,9 +90,9 @@ longer_yet limit m p long = grind (arith, nat_tests)
 pub given_up-longer : (h : Head) (m p : List ℕ) → is_given_up h m ≡ true → is_given_up h (m ++ p) ≡ true
 given_up-longer h m p is =
     given_up-by (is_given_up h (m ++ p) ≡ true) h m is
-        (λ hopeless. given_up-hopeless h (m ++ p) (hopeless-longer h m p hopeless))
-        (λ text long. given_up-text h (m ++ p) (text-longer h m p text)
-            (ap (nat_lt h.limit) (length-append m p) ∙ longer_yet h.limit (length m) (length p) long))
+    (λ hopeless. given_up-hopeless h (m ++ p) (hopeless-longer h m p hopeless))
+    (λ text long. given_up-text h (m ++ p) (text-longer h m p text)
+    (ap (nat_lt h.limit) (length-append m p) ∙ longer_yet h.limit (length m) (length p) long))
 
 pub given_up-unsent : (h : Head) (m : List ℕ) → is_given_up h m ≡ true → is_sent h m ≡ false
 given_up-unsent h m is =
@@ -102,9 +102,9 @@ pub given_up-blocks : (h : Head) (m : List ℕ) (r : Rule) → is_given_up h m �
     → is_allowing r ≡ false
 given_up-blocks h m r is rule =
     given_up-by (is_allowing r ≡ false) h m is
-        (λ hopeless. hopeless-blocks h m [] r hopeless
-            ((rule_is_computed h (m ++ []) r).1 (ap (window_rule_of h) (append-nil m) ∙ rule)))
-        (λ text long. absurd (none-some r (sym (text-no_rule h m text) ∙ rule)))
+    (λ hopeless. hopeless-blocks h m [] r hopeless
+    ((rule_is_computed h (m ++ []) r).1 (ap (window_rule_of h) (append-nil m) ∙ rule)))
+    (λ text long. absurd (none-some r (sym (text-no_rule h m text) ∙ rule)))
 
 -- whether a held body is given up with the next piece
 long_by : (limit m p : ℕ) → m ≤ limit → nat_lt limit (m + p) ≡ not (nat_le p (limit - m))
@@ -135,8 +135,30 @@ pub given_up-now : (h : Head) (m p : List ℕ) → 1024 ≤ h.limit → length m
 unfolding is_given_up
 given_up-now h m p low fits unsent =
     same_by (is_hopeless h (m ++ p)) (is_in_text h (m ++ p)) (nat_lt h.limit (length (m ++ p)))
-        (nat_le (length p) (h.limit - length m))
-        (ap (nat_lt h.limit) (length-append m p) ∙ long_by h.limit (length m) (length p) fits)
-        (λ hopeful full.
-            let long : h.limit < length m + length p = no_room h.limit (length m) (length p) full fits in
-            text_owed h (m ++ p) unsent hopeful (omega (arith, length-append m p)))
+    (nat_le (length p) (h.limit - length m))
+    (ap (nat_lt h.limit) (length-append m p) ∙ long_by h.limit (length m) (length p) fits)
+    (λ hopeful full.
+    let long : h.limit < length m + length p = no_room h.limit (length m) (length p) full fits in
+    text_owed h (m ++ p) unsent hopeful (omega (arith, length-append m p)))
+
+pub given_up-fits : (h : Head) (m p : List ℕ) (limit held : ℕ) (b : Bool) → h.limit ≡ limit → held ≡ length m
+    → 1024 ≤ limit → held ≤ limit → is_sent h (m ++ p) ≡ false
+    → (is_hopeless h (m ++ p) || not (nat_le (length p) (limit - held))) ≡ b → is_given_up h (m ++ p) ≡ b
+given_up-fits h m p limit held b same all low fits unsent is =
+    sym (given_up-now h m p (omega arith) (omega arith) unsent)
+    ∙ (ap (λ l. is_hopeless h (m ++ p) || not (nat_le (length p) (l - length m))) same
+    ∙ (ap (λ l. is_hopeless h (m ++ p) || not (nat_le (length p) (limit - l))) (sym all) ∙ is))
+
+-- how much is kept back
+pub held-holding : (x : Exchange) (m : List ℕ) → is_sent x.head m ≡ false → is_given_up x.head m ≡ false → held_of x m ≡ length m
+unfolding held_of
+held-holding x m unsent hopeful = rw (unsent, hopeful) refl
+
+pub held-sending : (x : Exchange) (m : List ℕ) → is_sent x.head m ≡ true
+    → held_of x m ≡ (if x.chunked then length m % chunk_size else 0)
+unfolding held_of
+held-sending x m sent = rw sent refl
+
+pub held-dropping : (x : Exchange) (m : List ℕ) → is_given_up x.head m ≡ true → held_of x m ≡ 0
+unfolding held_of
+held-dropping x m over = rw (given_up-unsent x.head m over, over) refl

@@ -1,5 +1,5 @@
 -- What goes out of a longer body, and how much.
-use Rattle.std.proofs.Common.{◌≡◌, ℕ, zero, suc, ◌+◌, ◌*◌, ◌<◌, ◌≤◌, Bool, true, false, List, [], ◌∷◌, ◌++◌, length, take, drop, Option, Some, None, is_some, if◌then◌else◌, refl, sym, ap, ◌∙◌, arith, append_assoc, length-append, length-drop}
+use Rattle.std.proofs.Common.{◌≡◌, ℕ, zero, suc, ◌+◌, ◌*◌, ◌<◌, ◌≤◌, Bool, true, false, List, [], ◌∷◌, ◌++◌, length, take, drop, Option, Some, None, is_some, refl, ap, ◌∙◌, arith, length-append, length-drop}
 use Rattle.std.proofs.lemmas.List.{length-take-le}
 use Rattle.std.specs.Fmt.{digits}
 use Rattle.orb_io.specs.Told.{IsPrefix}
@@ -30,7 +30,7 @@ front-grows x m more = by (is_sent x.head m) refl
     by false unsent = rw (front-unsent x m unsent) (IsPrefix-none (front_of x (m ++ more)))
     by true sent =
         rw (front-sent x m sent, front-sent x (m ++ more) (sent-longer x.head m more sent))
-            (IsPrefix-behind x.bytes (body_front x.chunked m) (body_front x.chunked (m ++ more)) (body-grows x.chunked m more))
+        (IsPrefix-behind x.bytes (body_front x.chunked m) (body_front x.chunked (m ++ more)) (body-grows x.chunked m more))
 
 -- a whole exchange that a rule decides
 pub whole-decided : (x : Exchange) (m : List ℕ) (r : Rule) → window_rule_of x.head m ≡ Some r → whole_of x m ≡ decided_by x m r
@@ -53,8 +53,9 @@ front-whole_now x m decided = by (is_sent x.head m) refl
     whole None rule some sent = absurd (grind (arith, some))
     whole (Some r) rule some sent =
         rw (front-sent x m sent, whole-allowed x m r rule (sent-allows x.head m r sent rule), whole-is x.chunked m)
-            (IsPrefix-behind x.bytes (body_front x.chunked m) (body_front x.chunked m ++ end_of x.chunked (kept_of x.chunked m))
-                (IsPrefix-append (body_front x.chunked m) (end_of x.chunked (kept_of x.chunked m))))
+        (IsPrefix-behind x.bytes (body_front x.chunked m) (body_front x.chunked m ++ end_of x.chunked (kept_of x.chunked m))
+        (IsPrefix-append (body_front x.chunked m) (end_of x.chunked (kept_of x.chunked m))))
+
     by : (b : Bool) → is_sent x.head m ≡ b → IsPrefix (front_of x m) (whole_of x m)
     by false unsent = rw (front-unsent x m unsent) (IsPrefix-none (whole_of x m))
     by true sent = whole (window_rule_of x.head m) refl decided sent
@@ -71,8 +72,12 @@ full-length zero a fits = omega arith
 full-length (suc n) a fits =
     let first : length (take 1024 a) ≡ 1024 = length-take-le 1024 a (omega arith) in
     let others : 1024 * n ≤ length (drop 1024 a) = omega (arith, length-drop 1024 a) in
-    omega (arith, length-append (chunk (take 1024 a)) (full_chunks n (drop 1024 a)),
-        chunk-length (take 1024 a) (omega arith), full-length n (drop 1024 a) others)
+    omega (
+      arith,
+      length-append (chunk (take 1024 a)) (full_chunks n (drop 1024 a)),
+      chunk-length (take 1024 a) (omega arith),
+      full-length n (drop 1024 a) others,
+    )
 
 body-length : (chunked : Bool) (m : List ℕ) → length (body_front chunked m) ≤ 2 * length m
 unfolding body_front chunk_size
@@ -86,9 +91,15 @@ rest-short_chunk (b ∷ rest) short = chunk-length (b ∷ rest) (omega arith)
 whole-length : (chunked : Bool) (m : List ℕ) → length (body_whole chunked m) ≤ 2 * length m + 128
 unfolding body_whole chunk_size
 whole-length true m =
-    omega (arith, length-append (full_chunks (count_full m) m) (rest_chunk (rest_of m) ++ last_chunk),
-        length-append (rest_chunk (rest_of m)) last_chunk, rest-short_chunk (rest_of m) (rest-short m),
-        full-length (count_full m) m (full_fits m), full_fits m, rest-length m)
+    omega (
+      arith,
+      length-append (full_chunks (count_full m) m) (rest_chunk (rest_of m) ++ last_chunk),
+      length-append (rest_chunk (rest_of m)) last_chunk,
+      rest-short_chunk (rest_of m) (rest-short m),
+      full-length (count_full m) m (full_fits m),
+      full_fits m,
+      rest-length m,
+    )
 whole-length false m = omega arith
 
 pub front-length : (x : Exchange) (m : List ℕ) → length (front_of x m) ≤ length x.bytes + 2 * length m
@@ -106,8 +117,10 @@ output-length x m = by (window_rule_of x.head m) refl
     decided-length r true allows =
         rw allows (omega (arith, length-append x.bytes (body_whole x.chunked m), whole-length x.chunked m))
     decided-length r false blocks = rw blocks (omega (arith, reply-short r))
+
     none-length : (o : Option Rule) → o ≡ None → length (decided x m o) ≤ length x.bytes + 2 * length m + 128
     none-length o none = rw none (omega arith)
+
     by : (o : Option Rule) → window_rule_of x.head m ≡ o → length (whole_of x m) ≤ length x.bytes + 2 * length m + 128
     by None rule = unfold whole_of in none-length (window_rule_of x.head m) rule
     by (Some r) rule = rw (whole-decided x m r rule) (decided-length r (is_allowing r) refl)

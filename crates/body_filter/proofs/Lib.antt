@@ -6,4 +6,5 @@ pub mod PutLemmas
 pub mod ReplyLemmas
 pub mod FilterLemmas
 pub mod LawLemmas
+pub mod OwedLemmas
 pub mod PhaseLemmas

@@ -1,12 +1,12 @@
 -- What a filter has read, phase by phase, and what a call that puts bytes does then.
-use Rattle.std.proofs.Common.{◌≡◌, ℕ, ◌-◌, ◌≤◌, Bool, true, false, ◌||◌, not, nat_lt, List, [], ◌++◌, length, ⊤, Option, Some, None, Result, Ok, Err, OnOk, OnErr, refl, sym, ap, ◌∙◌, subst, arith}
+use Rattle.std.proofs.Common.{◌≡◌, ℕ, Bool, true, false, ◌||◌, ◌&&◌, nat_lt, List, [], ◌++◌, Option, Result, Ok, Err, OnOk, OnErr, refl, sym, subst, arith}
 use Rattle.std.proofs.lemmas.List.{append-nil}
 use Rattle.std.proofs.lemmas.Bool.Decides.{nat_tests}
-use Rattle.orb_io.specs.Told.{Gains, GainsPrefix, IsPrefix, Pushes}
-use Rattle.orb_io.proofs.ToldLemmas.{IsPrefix-all, IsPrefix-behind, IsPrefix-trans}
+use Rattle.orb_io.specs.Told.{Gains, GainsPrefix, Pushes}
+use Rattle.orb_io.proofs.ToldLemmas.{IsPrefix-behind}
 use Rattle.response_rules.specs.declared.deciding.Decider.{Decider}
 use Rattle.response_rules.specs.Heads.{Head}
-use Rattle.response_rules.specs.Settled.{is_sent, is_hopeless}
+use Rattle.response_rules.specs.Settled.{is_hopeless, is_in_text}
 use Rattle.response_rules.specs.Reads.{HasRead as DeciderHasRead}
 use Rattle.body_filter.specs.declared.filtering.Filter.{Filter}
 use Rattle.body_filter.specs.declared.judging.Judgement.TheVariants as judgement
@@ -67,21 +67,28 @@ pub fed-ok : {T E : Type 0} (f : Filter) (a b : Option (List ℕ)) (k n : Option
 fed-ok f a b k n x m given bytes (Ok done) pushed reads = record { more = bytes; gained = pushed; reads = reads }
 fed-ok f a b k n x m given bytes (Err failed) pushed reads = tt
 
-pub fed-err : {T E : Type 0} (a b : Option (List ℕ)) (k n : Option ℕ) (given bytes owed : List ℕ) (r : Result T E)
-    → Pushes a b k n r bytes → given ++ bytes ≡ owed → OnErr r (Falls a b k n given owed)
-fed-err a b k n given bytes owed (Ok done) pushed is = tt
-fed-err a b k n given bytes owed (Err failed) pushed is = record {
+pub falls-of : (a b : Option (List ℕ)) (k n : Option ℕ) (given bytes owed : List ℕ)
+    → GainsPrefix a b k n bytes → given ++ bytes ≡ owed → Falls a b k n given owed
+falls-of a b k n given bytes owed pushed is = record {
   more = pushed.0;
   gained = pushed.2;
   within = rw (← is) (IsPrefix-behind given pushed.0 bytes pushed.1);
 }
 
+pub makes-of : (a b : Option (List ℕ)) (k n : Option ℕ) (given bytes owed : List ℕ)
+    → Gains a b k n bytes → given ++ bytes ≡ owed → Makes a b k n given owed
+makes-of a b k n given bytes owed gained is = record { more = bytes; gained = gained; is = is }
+
+pub fed-err : {T E : Type 0} (a b : Option (List ℕ)) (k n : Option ℕ) (given bytes owed : List ℕ) (r : Result T E)
+    → Pushes a b k n r bytes → given ++ bytes ≡ owed → OnErr r (Falls a b k n given owed)
+fed-err a b k n given bytes owed (Ok done) pushed is = tt
+fed-err a b k n given bytes owed (Err failed) pushed is = falls-of a b k n given bytes owed pushed is
+
 pub fed-of : {T E : Type 0} (f : Filter) (a b : Option (List ℕ)) (k n : Option ℕ) (x : Exchange) (m given bytes : List ℕ) (r : Result T E)
     → Pushes a b k n r bytes → OnOk r (HasRead f x m (given ++ bytes)) → given ++ bytes ≡ front_of x m
     → Fed r f a b k n x m given
 fed-of f a b k n x m given bytes (Ok done) pushed reads is = record { more = bytes; gained = pushed; reads = reads }
-fed-of f a b k n x m given bytes (Err failed) pushed reads is =
-    fed-err {T = ⊤} {E = ⊤} a b k n given bytes (front_of x m) (Err tt) pushed is
+fed-of f a b k n x m given bytes (Err failed) pushed reads is = falls-of a b k n given bytes (front_of x m) pushed is
 
 -- nothing is put
 pub fed-none : (f : Filter) (a : Option (List ℕ)) (k : Option ℕ) (x : Exchange) (m given : List ℕ)
@@ -117,6 +124,32 @@ judged-open true hopeless is = absurd (cc)
 judged-open false true is = absurd (cc)
 judged-open false false is = (refl, refl)
 
+first_by : (hopeless text long : Bool) → long ≡ false → (hopeless || (text && long)) ≡ hopeless
+first_by true text long short = refl
+first_by false true long short = short
+first_by false false long short = refl
+
+none_long : (limit : ℕ) → nat_lt limit 0 ≡ false
+none_long limit = grind (arith, nat_tests)
+
 pub given_up-first : (h : Head) → is_given_up h [] ≡ is_hopeless h []
 unfolding is_given_up
-given_up-first h = ?
+given_up-first h = first_by (is_hopeless h []) (is_in_text h []) (nat_lt h.limit 0) (none_long h.limit)
+
+-- the answer of a stage, as `feed` says it
+pub each-ok : {T E : Type 0} (old f : Filter) (a b : Option (List ℕ)) (k n : Option ℕ) (piece : List ℕ) (r : Result T E)
+    → ((x : Exchange) (m given : List ℕ) → HasRead old x m given → Fed r f a b k n x (m ++ piece) given)
+    → OnOk r ((x : Exchange) (m given : List ℕ) → HasRead old x m given → Feeds f a b k n x (m ++ piece) given)
+each-ok old f a b k n piece (Ok done) fed = fed
+each-ok old f a b k n piece (Err failed) fed = tt
+
+pub each-err : {T E : Type 0} (old f : Filter) (a b : Option (List ℕ)) (k n : Option ℕ) (piece : List ℕ) (r : Result T E)
+    → ((x : Exchange) (m given : List ℕ) → HasRead old x m given → Fed r f a b k n x (m ++ piece) given)
+    → OnErr r ((x : Exchange) (m given : List ℕ) → HasRead old x m given → Falls a b k n given (front_of x (m ++ piece)))
+each-err old f a b k n piece (Ok done) fed = tt
+each-err old f a b k n piece (Err failed) fed = fed
+
+-- an Err of a call, for each response
+pub err-always : {T E P : Type 0} (r : Result T E) → P → OnErr r P
+err-always (Ok done) p = tt
+err-always (Err failed) p = p

@@ -1,8 +1,7 @@
 -- Calls on a sink, one after the other.
-use Rattle.std.proofs.Common.{◌≡◌, ℕ, List, [], ◌++◌, Option, Result, Ok, Err, OnOk, OnErr, refl, sym, ap, ◌∙◌, subst, append_assoc}
-use Rattle.std.proofs.lemmas.List.{append-nil}
-use Rattle.orb_io.specs.Told.{Gains, GainsPrefix, IsPrefix, Pushes}
-use Rattle.orb_io.proofs.ToldLemmas.{Gains-twice, GainsPrefix-behind, GainsPrefix-longer, IsPrefix-append, IsPrefix-behind, IsPrefix-trans}
+use Rattle.std.proofs.Common.{◌≡◌, ℕ, List, ◌++◌, Option, Result, Ok, Err, OnOk, sym}
+use Rattle.orb_io.specs.Told.{Gains, GainsPrefix, Pushes}
+use Rattle.orb_io.proofs.ToldLemmas.{Gains-twice, GainsPrefix-behind, GainsPrefix-longer, IsPrefix-append}
 
 -- a push behind what was gained
 pub Pushes-behind : {T E : Type 0} (a b c : Option (List ℕ)) (k m n : Option ℕ) (r : Result T E) (xs piece : List ℕ)
@@ -24,3 +23,8 @@ Pushes-same a b m n r s xs ys same is pushed = rw (same, sym is) pushed
 pub on_ok : {T E P : Type 0} (r : Result T E) → P → OnOk r P
 on_ok (Ok done) p = p
 on_ok (Err failed) p = tt
+
+-- two facts behind an Ok
+pub on_ok-both : {T E A B C : Type 0} (r : Result T E) → OnOk r A → OnOk r B → (A → B → C) → OnOk r C
+on_ok-both (Ok done) a b f = f a b
+on_ok-both (Err failed) a b f = tt

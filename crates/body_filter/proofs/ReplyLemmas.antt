@@ -1,5 +1,5 @@
 -- The reply.
-use Rattle.std.proofs.Common.{ℕ, ◌+◌, ◌≤◌, List, [], ◌∷◌, ◌++◌, length, lit≤, arith, length-append}
+use Rattle.std.proofs.Common.{◌≤◌, [], ◌∷◌, length, lit≤, arith, length-append}
 use Rattle.response_rules.specs.declared.rules.Rule.{Rule}
 use Rattle.response_rules.specs.declared.rules.Rule.TheVariants as rule
 use Rattle.response_rules.specs.Rules.{name_of}

@@ -1,7 +1,7 @@
 -- What goes out of a body, piece by piece.
-use Rattle.std.proofs.Common.{◌≡◌, ℕ, ◌%◌, ◌<◌, Bool, true, false, List, [], ◌∷◌, ◌++◌, length, if◌then◌else◌, refl, sym, ap, ◌∙◌, arith, append_assoc}
+use Rattle.std.proofs.Common.{◌≡◌, ℕ, ◌%◌, Bool, true, false, List, [], ◌++◌, length, if◌then◌else◌, refl, sym, ap, ◌∙◌, arith}
 use Rattle.std.proofs.lemmas.List.{append-nil}
-use Rattle.body_filter.specs.Chunks.{chunk_size, body_front, body_whole, kept_of, full_chunks, count_full, rest_of, rest_chunk, last_chunk}
+use Rattle.body_filter.specs.Chunks.{chunk_size, body_front, body_whole, kept_of}
 use Rattle.body_filter.specs.Writes.{put_of, kept_behind, end_of}
 use Rattle.body_filter.proofs.ChunkLemmas.{chunks-on, rest-on, rest-length, chunks-short, rest-whole}
 

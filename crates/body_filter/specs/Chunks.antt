@@ -1,6 +1,6 @@
 -- A body as it goes out in chunks (RFC 9112 7.1): chunks of 1,024 bytes, a last one of the rest where there
 -- is a rest, and the last chunk, which is empty.
-use Rattle.std.specs.Prelude.{ℕ, zero, suc, ◌*◌, ◌/◌, Bool, true, false, List, [], ◌∷◌, ◌++◌, length, take, drop, if◌then◌else◌}
+use Rattle.std.specs.Prelude.{ℕ, zero, suc, ◌*◌, ◌/◌, Bool, false, List, [], ◌∷◌, ◌++◌, length, take, drop, if◌then◌else◌}
 use Rattle.std.specs.Fmt.{digits}
 
 -- how many bytes a chunk has, but for the one of the rest

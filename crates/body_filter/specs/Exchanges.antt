@@ -1,5 +1,5 @@
 -- What goes out of one exchange, by what it is judged by and by the bytes of its body.
-use Rattle.std.specs.Prelude.{ℕ, ◌%◌, Bool, true, false, ◌&&◌, ◌||◌, nat_lt, List, [], ◌++◌, length, Option, Some, None, if◌then◌else◌}
+use Rattle.std.specs.Prelude.{ℕ, ◌%◌, Bool, ◌&&◌, ◌||◌, nat_lt, List, [], ◌++◌, length, Option, Some, None, if◌then◌else◌}
 use Rattle.response_rules.specs.declared.rules.Rule.{Rule}
 use Rattle.response_rules.specs.Rules.{is_allowing}
 use Rattle.response_rules.specs.Heads.{Head}

@@ -1,8 +1,7 @@
 -- How far a response is judged, as a filter asks.
-use Rattle.std.specs.Prelude.{ℕ, Bool, true, false, List, Option, Some, None, if◌then◌else◌}
+use Rattle.std.specs.Prelude.{ℕ, Bool, List, Option, Some, None, if◌then◌else◌}
 use Rattle.response_rules.specs.declared.deciding.Decider.{Decider}
 use Rattle.response_rules.specs.Heads.{Head}
-use Rattle.response_rules.specs.Settled.{is_sent, is_hopeless}
 use Rattle.response_rules.specs.Reads.{HasRead as DeciderHasRead, CanFinish}
 use Rattle.body_filter.specs.declared.judging.Judgement.{Judgement}
 use Rattle.body_filter.specs.declared.judging.Judgement.TheVariants as judgement

@@ -9,5 +9,5 @@ returns c = record {
   front = front-grows;
   whole = λ x m more decided.
       IsPrefix-trans (front_of x m) (front_of x (m ++ more)) (whole_of x (m ++ more)) (front-grows x m more)
-          (front-whole_now x (m ++ more) decided);
+      (front-whole_now x (m ++ more) decided);
 }

@@ -1,4 +1,4 @@
-use Rattle.std.proofs.Common.{◌≡◌, ◌+◌, ◌-◌, ◌<◌, ◌++◌, length, take, [], refl, sym, ap, ◌∙◌, arith}
+use Rattle.std.proofs.Common.{◌≡◌, ◌+◌, ◌-◌, ◌++◌, length, take, refl, ap, ◌∙◌, arith}
 use Rattle.std.proofs.lemmas.Result.{err_from_is_err_and}
 use Rattle.orb_io.proofs.ToldLemmas.{Gains-none}
 use Rattle.body_filter.specs.Chunks.{chunk}
@@ -20,15 +20,15 @@ returns-in_err-put_bytes-clause-bytes g c =
     let left = c.chunks.left.now in
     let size = 1024 - c.len-in-chunks.result in
     let chunked : c.as_slice-in-chunks.result.now ≡ chunk (rest ++ take size left) =
-        c.as_slice-in-chunks.ensures.value
-        ∙ (c.full_chunk.ensures
-        ∙ (ap (λ t. chunk (t ++ c.split_at.result.0.now)) c.as_slice.ensures.value
-        ∙ ap (λ t. chunk (rest ++ t)) c.split_at.ensures.front)) in
+    c.as_slice-in-chunks.ensures.value
+    ∙ (c.full_chunk.ensures
+    ∙ (ap (λ t. chunk (t ++ c.split_at.result.0.now)) c.as_slice.ensures.value
+    ∙ ap (λ t. chunk (rest ++ t)) c.split_at.ensures.front)) in
     let full : length rest + length (take size left) ≡ 1024 =
-        omega (arith, ap length c.split_at.ensures.front, c.split_at.ensures.front_len, c.len-in-chunks.ensures.value) in
+    omega (arith, ap length c.split_at.ensures.front, c.split_at.ensures.front_len, c.len-in-chunks.ensures.value) in
     let err = err_from_is_err_and c.from_residual.result c.from_residual.ensures.1 in
     rw err.1 (cut-fault _ (g.O.Sink.put c.chunks.sink) _ _ (g.O.Sink.size c.chunks.sink) _ c.args.rest.now.items c.args.piece.now left rest size
-        c.chunks.invariant.cut full (rw (← chunked) c.in_err-put_bytes.ensures.bytes))
+    c.chunks.invariant.cut full (rw (← chunked) c.in_err-put_bytes.ensures.bytes))
 
 pub chunks-preserved : goal.chunks-preserved
 chunks-preserved g c =
@@ -36,17 +36,17 @@ chunks-preserved g c =
     let left = c.chunks.left.now in
     let size = 1024 - c.len-in-chunks.result in
     let chunked : c.as_slice-in-chunks.result.now ≡ chunk (rest ++ take size left) =
-        c.as_slice-in-chunks.ensures.value
-        ∙ (c.full_chunk.ensures
-        ∙ (ap (λ t. chunk (t ++ c.split_at.result.0.now)) c.as_slice.ensures.value
-        ∙ ap (λ t. chunk (rest ++ t)) c.split_at.ensures.front)) in
+    c.as_slice-in-chunks.ensures.value
+    ∙ (c.full_chunk.ensures
+    ∙ (ap (λ t. chunk (t ++ c.split_at.result.0.now)) c.as_slice.ensures.value
+    ∙ ap (λ t. chunk (rest ++ t)) c.split_at.ensures.front)) in
     let full : length rest + length (take size left) ≡ 1024 =
-        omega (arith, ap length c.split_at.ensures.front, c.split_at.ensures.front_len, c.len-in-chunks.ensures.value) in
+    omega (arith, ap length c.split_at.ensures.front, c.split_at.ensures.front_len, c.len-in-chunks.ensures.value) in
     record {
       short = rw c.clear.ensures (omega arith);
       cut = rw (c.clear.ensures, c.split_at.ensures.back)
           (cut-more _ (g.O.Sink.put c.chunks.sink) _ _ (g.O.Sink.size c.chunks.sink) _ c.args.rest.now.items c.args.piece.now left rest size
-              c.chunks.invariant.cut full (rw (← chunked) c.in_ok-put_bytes.ensures.bytes));
+          c.chunks.invariant.cut full (rw (← chunked) c.in_ok-put_bytes.ensures.bytes));
       calm = c.in_ok-put_bytes.ensures.cause ∙ c.chunks.invariant.calm;
       kept = g.met.O.Sink.kept_transitive _ _ _ c.chunks.invariant.kept c.in_ok-put_bytes.ensures.keeps;
     }
