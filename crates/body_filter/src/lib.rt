@@ -9,6 +9,8 @@
 #![tactic(auto)]
 
 mod appending;
+#[cfg(test)]
+mod examples;
 mod filtering;
 mod hexadecimal;
 mod judging;
@@ -16,6 +18,8 @@ mod laws;
 mod phases;
 mod pushing;
 mod replying;
+#[cfg(test)]
+mod tests;
 mod writing;
 
 pub use filtering::Filter;
