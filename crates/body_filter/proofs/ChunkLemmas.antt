@@ -126,3 +126,8 @@ chunk-last rest = simp append_assoc
 pub rest_chunk-some : (rest : List ℕ) → 0 < length rest → rest_chunk rest ≡ chunk rest
 rest_chunk-some [] some = absurd (omega arith)
 rest_chunk-some (b ∷ rest) some = refl
+
+-- the bytes of a text that is the chunk of two others
+pub chunk-of : (rest left front bytes text sent : List ℕ) (size : ℕ) → sent ≡ text → text ≡ chunk (front ++ bytes)
+    → front ≡ rest → bytes ≡ take size left → sent ≡ chunk (rest ++ take size left)
+chunk-of rest left front bytes text sent size a b c d = rw (a, b, c, d) refl

@@ -22,41 +22,29 @@ const REPLY: &[u8] =
 
 /// The fields of a response, whether the request is opaque, and whether the body came in chunks.
 #[derive(Clone, Copy, Debug)]
-struct Case<'a> {
+struct Response<'a> {
     fields: (&'a [u8], &'a [FieldSpan]),
     opaque: bool,
     chunked: bool,
 }
 
-const OPEN: Case = case(BARE, false, false);
-
-const OPEN_CHUNKED: Case = case(BARE, false, true);
-
-const UNTYPED: Case = case(BARE, true, false);
-
-const UNTYPED_CHUNKED: Case = case(BARE, true, true);
-
-const TEXT: Case = case(PLAIN, true, false);
-
-const BLOCKED: Case = case(HTML, true, false);
-
-const fn case<'a>(fields: (&'a [u8], &'a [FieldSpan]), opaque: bool, chunked: bool) -> Case<'a> {
-    Case {
+fn made_with<'a>(fields: (&'a [u8], &'a [FieldSpan]), opaque: bool, chunked: bool) -> Response<'a> {
+    Response {
         fields,
         opaque,
         chunked,
     }
 }
 
-fn decider(alloc: Global, case: &Case) -> Result<Decider, Fail>
+fn decider(alloc: Global, response: &Response) -> Result<Decider, Fail>
     ensures { IfOk result (λ d. IsMadeFor d LIMIT) }
 {
-    let fields = fields_of(case.fields.0, case.fields.1).ok_or("fields of the head")?;
+    let fields = fields_of(response.fields.0, response.fields.1).ok_or("fields of the head")?;
     let mut scratch = Scratch::open(alloc, fields.head.len())?;
     Ok(Decider::new(
         Policy::Orb,
         MediaState::Na,
-        case.opaque,
+        response.opaque,
         200,
         &fields,
         &mut scratch,
@@ -83,6 +71,28 @@ fn feed_in_pieces(
         rest = behind;
     }
     Ok(())
+}
+
+/// Whether behind each piece of the body so much is held, and so much went out. A row is how long
+/// the piece is, and these two.
+fn steps(
+    filter: &mut Filter,
+    body: &[u8],
+    pieces: &[(usize, usize, usize)],
+    sink: &mut MemorySink,
+) -> Result<bool, WriteFault>
+    requires { CanFeed filter.old }
+{
+    let mut rest = body;
+    for (size, held, put) in pieces {
+        let (piece, behind) = rest.split_at((*size).min(rest.len()));
+        filter.feed(piece, sink)?;
+        if filter.held() != *held || sink.bytes().len() != *put {
+            return Ok(false);
+        }
+        rest = behind;
+    }
+    Ok(true)
 }
 
 /// Ends the body, where a rule of the head or the window decides.
@@ -154,6 +164,8 @@ fn allowed_bodies_go_out_and_blocked_ones_dont(rt: HostRuntime) -> Result<(), Fa
         b"\r\n0\r\n\r\n",
     )?;
     let long = text(alloc, b"", 2049, b"")?;
+    let one = text(alloc, b"", 1024, b"")?;
+    let less = text(alloc, b"", 1019, b"")?;
     let sized = text(alloc, HEAD, 2049, b"")?;
     let image = text(alloc, PNG, 2000, b"")?;
     let short = text(alloc, HEAD, 0, PNG)?;
@@ -164,31 +176,73 @@ fn allowed_bodies_go_out_and_blocked_ones_dont(rt: HostRuntime) -> Result<(), Fa
         1019,
         b"\r\n0\r\n\r\n",
     )?;
-    let rows: [(Case, &[u8], Option<Rule>, &[u8]); 10] = [
-        (OPEN, &long, Some(Rule::NotOpaque), &sized),
-        (OPEN_CHUNKED, &long, Some(Rule::NotOpaque), &chunks),
-        (OPEN_CHUNKED, &long[..1024], Some(Rule::NotOpaque), &full),
+    let rows: [(Response, &[u8], Option<Rule>, &[u8]); 10] = [
         (
-            OPEN_CHUNKED,
-            &long[..1019],
+            made_with(BARE, false, false),
+            &long,
+            Some(Rule::NotOpaque),
+            &sized,
+        ),
+        (
+            made_with(BARE, false, true),
+            &long,
+            Some(Rule::NotOpaque),
+            &chunks,
+        ),
+        (
+            made_with(BARE, false, true),
+            &one,
+            Some(Rule::NotOpaque),
+            &full,
+        ),
+        (
+            made_with(BARE, false, true),
+            &less,
             Some(Rule::NotOpaque),
             &hexadecimal,
         ),
-        (OPEN, b"", Some(Rule::NotOpaque), HEAD),
-        (UNTYPED, &image, Some(Rule::Image), &sent),
-        (UNTYPED, PNG, Some(Rule::Image), &short),
-        (UNTYPED_CHUNKED, &long, Some(Rule::Untyped), &chunks),
-        (TEXT, &long, None, b""),
-        (BLOCKED, &long, Some(Rule::NosniffBlocklisted), REPLY),
+        (
+            made_with(BARE, false, false),
+            b"",
+            Some(Rule::NotOpaque),
+            HEAD,
+        ),
+        (
+            made_with(BARE, true, false),
+            &image,
+            Some(Rule::Image),
+            &sent,
+        ),
+        (made_with(BARE, true, false), PNG, Some(Rule::Image), &short),
+        (
+            made_with(BARE, true, true),
+            &long,
+            Some(Rule::Untyped),
+            &chunks,
+        ),
+        (made_with(PLAIN, true, false), &long, None, b""),
+        (
+            made_with(HTML, true, false),
+            &long,
+            Some(Rule::NosniffBlocklisted),
+            REPLY,
+        ),
     ];
-    for (case, body, rule, want) in rows {
+    for (response, body, rule, want) in rows {
         for size in [1, 7, 4096] {
             let mut filter = Filter::open(alloc, LIMIT)?;
             let mut sink = MemorySink::open(alloc, 4096, Vec::new(alloc))?;
-            let decider = decider(alloc, &case)?;
-            let verdict = pass(&mut filter, decider, case.chunked, body, size, &mut sink)?;
-            assert_eq!(rt; verdict.map(|v| v.rule), rule, "{case:?}");
-            assert_eq!(rt; sink.bytes(), want, "{case:?}");
+            let decider = decider(alloc, &response)?;
+            let verdict = pass(
+                &mut filter,
+                decider,
+                response.chunked,
+                body,
+                size,
+                &mut sink,
+            )?;
+            assert_eq!(rt; verdict.map(|v| v.rule), rule, "{response:?}");
+            assert_eq!(rt; sink.bytes(), want, "{response:?}");
         }
     }
     Ok(())
@@ -200,52 +254,46 @@ fn held_bytes_are_counted(rt: HostRuntime) -> Result<(), Fail> {
     let image = text(alloc, PNG, 2041, b"")?;
     let long = text(alloc, b"", 2049, b"")?;
     // how long each piece is, what is held behind it, and how much went out
-    let rows: [(Case, &[u8], [(usize, usize, usize); 4]); 6] = [
+    let rows: [(Response, &[u8], &[(usize, usize, usize)]); 6] = [
         (
-            OPEN,
+            made_with(BARE, false, false),
             &long,
-            [(0, 0, 19), (1, 0, 20), (1023, 0, 1043), (1025, 0, 2068)],
+            &[(0, 0, 19), (1, 0, 20), (1023, 0, 1043), (1025, 0, 2068)],
         ),
         (
-            OPEN_CHUNKED,
+            made_with(BARE, false, true),
             &long,
-            [(0, 0, 19), (1023, 1023, 19), (1, 0, 1050), (1025, 1, 2081)],
+            &[(0, 0, 19), (1023, 1023, 19), (1, 0, 1050), (1025, 1, 2081)],
         ),
         (
-            UNTYPED,
+            made_with(BARE, true, false),
             &image,
-            [(8, 8, 0), (1015, 1023, 0), (1, 0, 1043), (1025, 0, 2068)],
+            &[(8, 8, 0), (1015, 1023, 0), (1, 0, 1043), (1025, 0, 2068)],
         ),
         (
-            UNTYPED_CHUNKED,
+            made_with(BARE, true, true),
             &long,
-            [(1, 1, 0), (1022, 1023, 0), (2, 1, 1050), (1024, 1, 2081)],
+            &[(1, 1, 0), (1022, 1023, 0), (2, 1, 1050), (1024, 1, 2081)],
         ),
         (
-            TEXT,
+            made_with(PLAIN, true, false),
             &long,
-            [(1024, 1024, 0), (1023, 2047, 0), (1, 2048, 0), (1, 0, 0)],
+            &[(1024, 1024, 0), (1023, 2047, 0), (1, 2048, 0), (1, 0, 0)],
         ),
         (
-            BLOCKED,
+            made_with(HTML, true, false),
             &long,
-            [(0, 0, 0), (1, 0, 0), (1023, 0, 0), (1025, 0, 0)],
+            &[(0, 0, 0), (1, 0, 0), (1023, 0, 0), (1025, 0, 0)],
         ),
     ];
-    for (case, body, pieces) in rows {
+    for (response, body, pieces) in rows {
         let mut filter = Filter::open(alloc, LIMIT)?;
         assert_eq!(rt; filter.held(), 0);
         let mut sink = MemorySink::open(alloc, 4096, Vec::new(alloc))?;
-        begin(&mut filter, decider(alloc, &case)?, case.chunked, &mut sink)?;
-        assert_eq!(rt; filter.held(), 0);
-        let mut rest = body;
-        for (size, held, put) in pieces {
-            let (piece, behind) = rest.split_at(size.min(rest.len()));
-            filter.feed(piece, &mut sink)?;
-            rest = behind;
-            assert_eq!(rt; filter.held(), held, "{case:?} {size}");
-            assert_eq!(rt; sink.bytes().len(), put, "{case:?} {size}");
-        }
+        let decider = decider(alloc, &response)?;
+        begin(&mut filter, decider, response.chunked, &mut sink)?;
+        let steps = steps(&mut filter, body, pieces, &mut sink)?;
+        assert!(rt; steps, "{response:?}");
     }
     Ok(())
 }
@@ -265,7 +313,7 @@ fn a_fault_leaves_a_front_and_a_filter_that_begins_anew(rt: HostRuntime) -> Resu
         let mut sink = MemorySink::open(alloc, room, [fails].to_vec(alloc)?)?;
         let first = pass(
             &mut filter,
-            decider(alloc, &OPEN)?,
+            decider(alloc, &made_with(BARE, false, false))?,
             false,
             b"abcdefgh",
             4,
@@ -276,7 +324,7 @@ fn a_fault_leaves_a_front_and_a_filter_that_begins_anew(rt: HostRuntime) -> Resu
         let mut other = MemorySink::open(alloc, 128, Vec::new(alloc))?;
         let second = pass(
             &mut filter,
-            decider(alloc, &BLOCKED)?,
+            decider(alloc, &made_with(HTML, true, false))?,
             false,
             b"abcd",
             4,

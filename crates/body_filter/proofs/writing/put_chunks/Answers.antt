@@ -2,6 +2,7 @@ use Rattle.std.proofs.Common.{◌≡◌, ◌+◌, ◌-◌, ◌++◌, length, tak
 use Rattle.std.proofs.lemmas.Result.{err_from_is_err_and}
 use Rattle.orb_io.proofs.ToldLemmas.{Gains-none}
 use Rattle.body_filter.specs.Chunks.{chunk}
+use Rattle.body_filter.proofs.ChunkLemmas.{chunk-of}
 use Rattle.body_filter.proofs.CutLemmas.{cut-first, cut-more, cut-fault, cut-last, cut-rest}
 use Rattle.body_filter.proofs.writing.put_chunks.Goals as goal
 
@@ -20,10 +21,7 @@ returns-in_err-put_bytes-clause-bytes g c =
     let left = c.chunks.left.now in
     let size = 1024 - c.len-in-chunks.result in
     let chunked : c.as_slice-in-chunks.result.now ≡ chunk (rest ++ take size left) =
-    c.as_slice-in-chunks.ensures.value
-    ∙ (c.full_chunk.ensures
-    ∙ (ap (λ t. chunk (t ++ c.split_at.result.0.now)) c.as_slice.ensures.value
-    ∙ ap (λ t. chunk (rest ++ t)) c.split_at.ensures.front)) in
+    chunk-of rest left _ _ _ _ size c.as_slice-in-chunks.ensures.value c.full_chunk.ensures c.as_slice.ensures.value c.split_at.ensures.front in
     let full : length rest + length (take size left) ≡ 1024 =
     omega (arith, ap length c.split_at.ensures.front, c.split_at.ensures.front_len, c.len-in-chunks.ensures.value) in
     let err = err_from_is_err_and c.from_residual.result c.from_residual.ensures.1 in
@@ -36,10 +34,7 @@ chunks-preserved g c =
     let left = c.chunks.left.now in
     let size = 1024 - c.len-in-chunks.result in
     let chunked : c.as_slice-in-chunks.result.now ≡ chunk (rest ++ take size left) =
-    c.as_slice-in-chunks.ensures.value
-    ∙ (c.full_chunk.ensures
-    ∙ (ap (λ t. chunk (t ++ c.split_at.result.0.now)) c.as_slice.ensures.value
-    ∙ ap (λ t. chunk (rest ++ t)) c.split_at.ensures.front)) in
+    chunk-of rest left _ _ _ _ size c.as_slice-in-chunks.ensures.value c.full_chunk.ensures c.as_slice.ensures.value c.split_at.ensures.front in
     let full : length rest + length (take size left) ≡ 1024 =
     omega (arith, ap length c.split_at.ensures.front, c.split_at.ensures.front_len, c.len-in-chunks.ensures.value) in
     record {
