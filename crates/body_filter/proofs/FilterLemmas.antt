@@ -72,7 +72,7 @@ given_up-by P h m is hopeless text = by (is_hopeless h m) (is_in_text h m) (nat_
     by false true false is first second = absurd (grind (arith, is))
     by false false c is first second = absurd (grind (arith, is))
 
-given_up-hopeless : (h : Head) (m : List ℕ) → is_hopeless h m ≡ true → is_given_up h m ≡ true
+pub given_up-hopeless : (h : Head) (m : List ℕ) → is_hopeless h m ≡ true → is_given_up h m ≡ true
 unfolding is_given_up
 given_up-hopeless h m is = rw is refl
 

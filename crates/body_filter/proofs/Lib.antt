@@ -5,6 +5,7 @@ pub mod WriteLemmas
 pub mod PutLemmas
 pub mod ReplyLemmas
 pub mod FilterLemmas
+pub mod HeldLemmas
 pub mod LawLemmas
 pub mod OwedLemmas
 pub mod PhaseLemmas

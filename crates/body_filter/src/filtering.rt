@@ -112,8 +112,8 @@ impl Filter {
         }
     }
 
-    /// Reads the next piece of the body. Where a rule that allows is known then, all that was held and the
-    /// piece go out.
+    /// Reads the next piece of the body, behind a `begin` that answered Ok. Where a rule that allows is known
+    /// then, all that was held and the piece go out.
     pub fn feed<O: Sink>(&mut self, piece: &[u8], sink: &mut O) -> Result<(), WriteFault>
         requires { CanFeed self.old }
         ensures feeds { OnOk result ((x : Exchange) (m given : List ℕ) → HasRead self.old x m given
@@ -138,8 +138,9 @@ impl Filter {
         }
     }
 
-    /// Ends the body, and tells the verdict. What is owed goes out: the rest of an allowed response, or
-    /// the reply that stands in the place of a blocked one.
+    /// Ends a body that a rule of the head or the window decides, and tells the verdict. What is owed
+    /// goes out: the rest of an allowed response, or the reply that stands in the place of a blocked one.
+    /// The filter then takes only `begin`.
     pub fn end<O: Sink>(&mut self, sink: &mut O) -> Result<Verdict, WriteFault>
         requires { CanEnd self.old }
         ensures makes { IfOk result (λ _. (x : Exchange) (m given : List ℕ) → HasRead self.old x m given

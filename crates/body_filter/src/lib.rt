@@ -23,5 +23,7 @@ mod tests;
 mod writing;
 
 pub use filtering::Filter;
-pub use laws::{front_grows, held_text_is_silent, output_is_short};
+pub use laws::{
+    front_grows, given_up_is_for_good, held_is_bounded, held_text_is_silent, output_is_short,
+};
 pub use pushing::WriteFault;
