@@ -1,0 +1,11 @@
+pub mod ChunkLemmas
+pub mod CutLemmas
+pub mod DigitLemmas
+pub mod WriteLemmas
+pub mod PutLemmas
+pub mod ReplyLemmas
+pub mod FilterLemmas
+pub mod HeldLemmas
+pub mod LawLemmas
+pub mod OwedLemmas
+pub mod PhaseLemmas

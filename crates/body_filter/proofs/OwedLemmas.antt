@@ -1,0 +1,92 @@
+-- What a filter puts is what is owed.
+use Rattle.std.proofs.Common.{◌≡◌, ℕ, Bool, true, false, List, [], ◌++◌, if◌then◌else◌, sym, ap, ◌∙◌, append_assoc}
+use Rattle.std.proofs.lemmas.List.{append-nil}
+use Rattle.response_rules.specs.declared.verdicts.Verdict.{Verdict}
+use Rattle.response_rules.specs.Rules.{is_allowing}
+use Rattle.response_rules.specs.Settled.{is_sent}
+use Rattle.response_rules.specs.Reads.{IsVerdict}
+use Rattle.response_rules.proofs.SettledLemmas.{sent-allows}
+use Rattle.body_filter.specs.declared.filtering.Filter.{Filter}
+use Rattle.body_filter.specs.declared.phases.Phase.{Phase}
+use Rattle.body_filter.specs.declared.phases.Phase.TheVariants as phase
+use Rattle.body_filter.specs.Chunks.{body_front, kept_of}
+use Rattle.body_filter.specs.Writes.{put_of, kept_behind, end_of}
+use Rattle.body_filter.specs.Reply.{reply_of}
+use Rattle.body_filter.specs.Exchanges.{Exchange, front_of, whole_of}
+use Rattle.body_filter.specs.Reads.{Stands, ended_by}
+use Rattle.body_filter.proofs.WriteLemmas.{front-on, kept-on, front-none, released, released-kept, held-whole, whole-is}
+use Rattle.body_filter.proofs.FilterLemmas.{front-unsent, front-sent, given_up-unsent, given_up-blocks}
+use Rattle.body_filter.proofs.LawLemmas.{whole-allowed, whole-blocked}
+
+-- at the head
+pub first-sent : (x : Exchange) → is_sent x.head [] ≡ true → x.bytes ≡ front_of x []
+first-sent x sent =
+    sym (front-sent x [] sent ∙ (ap (λ t. x.bytes ++ t) (front-none x.chunked) ∙ append-nil x.bytes))
+
+-- a body that was held, and goes out
+pub release-is : (x : Exchange) (m p : List ℕ) (chunked : Bool) (rest head held given : List ℕ)
+    → chunked ≡ x.chunked → rest ≡ [] → head ≡ x.bytes → held ≡ m → given ≡ [] → is_sent x.head (m ++ p) ≡ true
+    → given ++ (head ++ (put_of chunked rest held ++ put_of chunked (kept_behind chunked rest held) p)) ≡ front_of x (m ++ p)
+release-is x m p chunked rest head held given is none same all nothing sent =
+    rw (is, none, same, all, nothing)
+    (ap (λ t. x.bytes ++ t) (released x.chunked m p) ∙ sym (front-sent x (m ++ p) sent))
+
+pub release-kept : (x : Exchange) (m p : List ℕ) (chunked : Bool) (rest held : List ℕ)
+    → chunked ≡ x.chunked → rest ≡ [] → held ≡ m
+    → kept_behind chunked (kept_behind chunked rest held) p ≡ kept_of x.chunked (m ++ p)
+release-kept x m p chunked rest held is none all = rw (is, none, all) (released-kept x.chunked m p)
+
+-- one that goes out already
+pub sending-is : (x : Exchange) (m p : List ℕ) (chunked : Bool) (rest given : List ℕ)
+    → chunked ≡ x.chunked → rest ≡ kept_of x.chunked m → given ≡ front_of x m → is_sent x.head m ≡ true
+    → is_sent x.head (m ++ p) ≡ true → given ++ put_of chunked rest p ≡ front_of x (m ++ p)
+sending-is x m p chunked rest given is kept gave sent sent' =
+    rw (is, kept, gave, front-sent x m sent)
+    (append_assoc x.bytes (body_front x.chunked m) (put_of x.chunked (kept_of x.chunked m) p)
+    ∙ (ap (λ t. x.bytes ++ t) (sym (front-on x.chunked m p)) ∙ sym (front-sent x (m ++ p) sent')))
+
+pub sending-kept : (x : Exchange) (m p : List ℕ) (chunked : Bool) (rest : List ℕ)
+    → chunked ≡ x.chunked → rest ≡ kept_of x.chunked m → kept_behind chunked rest p ≡ kept_of x.chunked (m ++ p)
+sending-kept x m p chunked rest is kept = rw (is, kept) (sym (kept-on x.chunked m p))
+
+-- the end of one that goes out
+ends_sent : (x : Exchange) (m : List ℕ) (v : Verdict) (chunked : Bool) (rest given : List ℕ)
+    → chunked ≡ x.chunked → rest ≡ kept_of x.chunked m → given ≡ front_of x m → is_sent x.head m ≡ true
+    → IsVerdict x.head m v → given ++ end_of chunked rest ≡ whole_of x m
+ends_sent x m v chunked rest given is kept gave sent verdict =
+    rw (is, kept, gave, front-sent x m sent)
+    (append_assoc x.bytes (body_front x.chunked m) (end_of x.chunked (kept_of x.chunked m))
+    ∙ (ap (λ t. x.bytes ++ t) (sym (whole-is x.chunked m))
+    ∙ sym (whole-allowed x m v.rule verdict.rule (sent-allows x.head m v.rule sent verdict.rule))))
+
+-- of one that was held to its end
+ends_held : (x : Exchange) (m : List ℕ) (v : Verdict) (chunked : Bool) (rest head held : List ℕ)
+    → chunked ≡ x.chunked → rest ≡ [] → head ≡ x.bytes → held ≡ m → IsVerdict x.head m v
+    → (if v.allow then head ++ (put_of chunked rest held ++ end_of chunked (kept_behind chunked rest held)) else reply_of v.rule)
+    ≡ whole_of x m
+ends_held x m v chunked rest head held is none same all verdict = by v.allow (sym verdict.allow)
+  where
+    by : (b : Bool) → is_allowing v.rule ≡ b
+        → (if b then head ++ (put_of chunked rest held ++ end_of chunked (kept_behind chunked rest held)) else reply_of v.rule)
+        ≡ whole_of x m
+    by true allows =
+        rw (is, none, same, all)
+        (ap (λ t. x.bytes ++ t) (held-whole x.chunked m) ∙ sym (whole-allowed x m v.rule verdict.rule allows))
+    by false blocks = sym (whole-blocked x m v.rule verdict.rule blocks)
+
+pub ended-is : (p : Phase) (f g : Filter) (x : Exchange) (m given : List ℕ) (v : Verdict) → Stands p f x m
+    → given ≡ front_of x m → IsVerdict x.head m v → g.writer ≡ f.writer → g.head ≡ f.head → g.held ≡ f.held
+    → given ++ ended_by p g v ≡ whole_of x m
+ended-is phase.Idle f g x m given v stands gave verdict writer head held = absurd stands
+ended-is phase.Holding f g x m given v stands gave verdict writer head held =
+    rw (gave, front-unsent x m stands.unsent)
+    (ends_held x m v g.writer.chunked g.writer.rest.items g.head.items g.held.items
+    (ap (λ w. w.chunked) writer ∙ stands.chunked) (ap (λ w. w.rest.items) writer ∙ stands.rest)
+    (ap (λ t. t.items) head ∙ stands.head) (ap (λ t. t.items) held ∙ stands.held) verdict)
+ended-is phase.Sending f g x m given v stands gave verdict writer head held =
+    ends_sent x m v g.writer.chunked g.writer.rest.items given
+    (ap (λ w. w.chunked) writer ∙ stands.chunked) (ap (λ w. w.rest.items) writer ∙ stands.rest)
+    gave stands.sent verdict
+ended-is phase.Dropping f g x m given v stands gave verdict writer head held =
+    rw (gave, front-unsent x m (given_up-unsent x.head m stands.over))
+    (sym (whole-blocked x m v.rule verdict.rule (given_up-blocks x.head m v.rule stands.over verdict.rule)))

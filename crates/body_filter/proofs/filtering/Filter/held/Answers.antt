@@ -1,0 +1,35 @@
+use Rattle.std.proofs.Common.{inl, inr, length, refl, sym, ap, ◌∙◌}
+use Rattle.body_filter.specs.Reads.{held_in}
+use Rattle.body_filter.proofs.WriteLemmas.{kept-length}
+use Rattle.body_filter.proofs.FilterLemmas.{held-holding, held-sending, held-dropping}
+use Rattle.body_filter.proofs.PhaseLemmas.{holds-of, sends-of, drops-of, idle-spent}
+use Rattle.body_filter.proofs.filtering.Filter.held.Goals as goal
+
+pub returns-in-Holding-clause-value : goal.returns-in-Holding-clause-value
+unfolding held_in
+returns-in-Holding-clause-value c = rw c.in-Holding.is (c.len.ensures ∙ c.args.self.now.held.ok.0)
+
+pub returns-in-Holding-clause-exact : goal.returns-in-Holding-clause-exact
+returns-in-Holding-clause-exact c = λ x m given r.
+    let s = holds-of c.args.self.now x m given c.in-Holding.is r in
+    c.len.ensures ∙ (c.args.self.now.held.ok.0 ∙ (ap length s.held ∙ sym (held-holding x m s.unsent s.hopeful)))
+
+pub returns-in-Sending-clause-value : goal.returns-in-Sending-clause-value
+unfolding held_in
+returns-in-Sending-clause-value c = rw c.in-Sending.is c.kept.ensures.value
+
+pub returns-in-Sending-clause-exact : goal.returns-in-Sending-clause-exact
+returns-in-Sending-clause-exact c = λ x m given r.
+    let s = sends-of c.args.self.now x m given c.in-Sending.is r in
+    c.kept.ensures.value ∙ (ap length s.rest ∙ (kept-length x.chunked m ∙ sym (held-sending x m s.sent)))
+
+pub returns-in-Dropping-clause-value : goal.returns-in-Dropping-clause-value
+unfolding held_in
+returns-in-Dropping-clause-value c = elim c.in-Dropping.is [ inl is ↦ rw is refl | inr is ↦ rw is refl ]
+
+pub returns-in-Dropping-clause-exact : goal.returns-in-Dropping-clause-exact
+returns-in-Dropping-clause-exact c = λ x m given r.
+    elim c.in-Dropping.is [
+      | inl is ↦ sym (held-dropping x m (drops-of c.args.self.now x m given is r).over)
+      | inr is ↦ absurd (idle-spent c.args.self.now is x m given r)
+    ]

@@ -1,0 +1,5 @@
+use Rattle.body_filter.proofs.HeldLemmas.{held-window, held-limit, held-hopeless}
+use Rattle.body_filter.proofs.laws.held_is_bounded.Goals as goal
+
+pub returns : goal.returns
+returns c = record { window = held-window; limit = held-limit; hopeless = held-hopeless }

@@ -1,0 +1,15 @@
+use Rattle.body_filter.proofs.ChunkLemmas.{chunk-last}
+use Rattle.body_filter.proofs.writing.last_chunks.Goals as goal
+
+pub returns : goal.returns
+returns c =
+    rw (
+      c.extend-4.ensures,
+      c.extend-3.ensures,
+      c.extend-2.ensures,
+      c.extend.ensures,
+      c.new-text.ensures,
+      c.as_slice.ensures.value,
+      c.hexadecimal.ensures,
+    )
+    (chunk-last c.args.rest.now)

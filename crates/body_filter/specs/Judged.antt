@@ -1,0 +1,21 @@
+-- How far a response is judged, as a filter asks.
+use Rattle.std.specs.Prelude.{ℕ, Bool, List, Option, Some, None, if◌then◌else◌}
+use Rattle.response_rules.specs.declared.deciding.Decider.{Decider}
+use Rattle.response_rules.specs.Heads.{Head}
+use Rattle.response_rules.specs.Reads.{HasRead as DeciderHasRead, CanFinish}
+use Rattle.body_filter.specs.declared.judging.Judgement.{Judgement}
+use Rattle.body_filter.specs.declared.judging.Judgement.TheVariants as judgement
+
+-- there is a decider, and it has read this front of the body
+abbrev pub Decides : Option Decider → Head → List ℕ → Type 0
+Decides None h m = ⊥
+Decides (Some decider) h m = DeciderHasRead decider h m
+
+-- there is a decider, and it has read a body that a rule of the head or the window decides
+abbrev pub CanDecide : Option Decider → Type 0
+CanDecide None = ⊥
+CanDecide (Some decider) = CanFinish decider
+
+-- the judgement on a front of a body
+abbrev pub judged : (sent hopeless : Bool) → Judgement
+judged sent hopeless = if sent then judgement.Allowed else if hopeless then judgement.Blocked else judgement.Open

@@ -1,0 +1,15 @@
+-- What goes out piece by piece of a body, where the bytes before it that fill no chunk were kept.
+use Rattle.std.specs.Prelude.{ℕ, Bool, List, [], ◌++◌, if◌then◌else◌}
+use Rattle.body_filter.specs.Chunks.{full_chunks, count_full, rest_of, rest_chunk, last_chunk}
+
+-- what goes out of a piece, behind the bytes that were kept
+unfoldable pub put_of : (chunked : Bool) → (kept : List ℕ) → List ℕ → List ℕ
+put_of chunked kept piece = if chunked then full_chunks (count_full (kept ++ piece)) (kept ++ piece) else piece
+
+-- the bytes that are kept then
+unfoldable pub kept_behind : (chunked : Bool) → (kept : List ℕ) → List ℕ → List ℕ
+kept_behind chunked kept piece = if chunked then rest_of (kept ++ piece) else kept
+
+-- what goes out at the end of the body
+unfoldable pub end_of : (chunked : Bool) → (kept : List ℕ) → List ℕ
+end_of chunked kept = if chunked then rest_chunk kept ++ last_chunk else []

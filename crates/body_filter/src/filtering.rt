@@ -1,0 +1,267 @@
+//! A body held back, passed on or dropped.
+ghost use Rattle.std.specs.Prelude.{◌≤◌, vec_len, vec_capacity};
+
+use crate::appending::append;
+use crate::judging::{Judgement, finish, judge, read_on, within};
+use crate::phases::{Phase, idle_at_fault};
+use crate::pushing::{WriteFault, put_bytes};
+use crate::replying::put_reply;
+use crate::writing::{BodyWriter, put_whole, release};
+use orb_io::{NoMemory, Sink};
+use response_rules::{Decider, Rule, Verdict};
+use std::alloc::Global;
+
+/// The most bytes of a head.
+const HEAD: usize = 65_536;
+
+/// Holds back the body of one response at a time until it is known whether it may go out.
+#[derive(Drop)]
+pub struct Filter {
+    limit: usize,
+    phase: Phase,
+    // The one of the response that comes.
+    decider: Option<Decider>,
+    writer: BodyWriter,
+    head: Vec<u8>,
+    held: Vec<u8>,
+    ghost window: { 1024 ≤ limit },
+    ghost fits: { vec_len held ≤ limit },
+    ghost room: { limit ≤ vec_capacity held },
+    ghost head_room: { 65536 ≤ vec_capacity head },
+}
+
+impl Filter {
+    ghost use Rattle.std.specs.Prelude.{◌≡◌, ℕ, ◌++◌, List, [], length, IfOk, OnOk, OnErr};
+    ghost use Rattle.orb_io.specs.Told.{HasCause};
+    ghost use Rattle.response_rules.specs.Heads.{Head};
+    ghost use Rattle.response_rules.specs.Tables.{window_rule_of};
+    ghost use Rattle.response_rules.specs.Reads.{HasRead as DeciderHasRead, IsVerdict};
+    ghost use Rattle.body_filter.specs.Exchanges.{Exchange, exchange_of, front_of, whole_of, held_of};
+    ghost use Rattle.body_filter.specs.Puts.{Makes, Falls};
+    ghost use Rattle.body_filter.specs.Reads.{HasRead, CanFeed, CanEnd, IsSpent, IsMadeFor, Feeds, limit_of, held_in};
+
+    /// A filter that holds back at most `limit` bytes of a body, from 1,024 to 268,435,456. It reserves
+    /// room for them and for a head of 65,536 bytes.
+    pub fn open(alloc: Global, limit: u64) -> Result<Filter, NoMemory>
+        requires low { 1024 ≤ limit }
+        requires high { limit ≤ 268435456 }
+        ensures limit { IfOk result (λ f. limit_of f ≡ limit) }
+        ensures empty { IfOk result (λ f. held_in f ≡ 0) }
+    {
+        let limit = limit as usize;
+        let (Ok(held), Ok(head)) = (
+            Vec::with_capacity(alloc, limit),
+            Vec::with_capacity(alloc, HEAD),
+        ) else {
+            return Err(NoMemory);
+        };
+        Ok(Filter {
+            limit,
+            phase: Phase::Idle,
+            decider: None,
+            writer: BodyWriter::new(),
+            head,
+            held,
+        })
+    }
+
+    /// Begins a response: a new decider that was made of its head, with the limit of this filter; its
+    /// head as it was read, at most 65,536 bytes; and whether its body came in chunks. What was held of
+    /// another is dropped. Where the head alone allows the response, the head goes out.
+    ///
+    /// Behind a [`WriteFault`] the filter takes only `begin`.
+    pub fn begin<O: Sink>(
+        &mut self,
+        decider: Decider,
+        head: &[u8],
+        chunked: bool,
+        sink: &mut O,
+    ) -> Result<(), WriteFault>
+        requires short { length head.now ≤ 65536 }
+        requires made { IsMadeFor decider (limit_of self.old) }
+        ensures feeds { OnOk result ((h : Head) → DeciderHasRead decider h []
+            → Feeds self.new (O.put sink.old) (O.put sink.new) (O.size sink.old) (O.size sink.new)
+            (exchange_of h head.now chunked) [] []) }
+        ensures falls { OnErr result ((h : Head) → DeciderHasRead decider h []
+            → Falls (O.put sink.old) (O.put sink.new) (O.size sink.old) (O.size sink.new)
+            [] (front_of (exchange_of h head.now chunked) [])) }
+        ensures spent { OnErr result (IsSpent self.new) }
+        ensures cause { HasCause (O.faults sink.old) (O.faults sink.new) result }
+        ensures keeps { O.kept sink.old sink.new }
+        ensures limit { limit_of self.new ≡ limit_of self.old }
+    {
+        let judgement = judge(&decider);
+        self.decider = Some(decider);
+        self.writer.start(chunked);
+        match judgement {
+            Judgement::Allowed => {
+                self.phase = Phase::Sending;
+                idle_at_fault(&mut self.phase, put_bytes(head, sink))
+            }
+            Judgement::Blocked => {
+                self.phase = Phase::Dropping;
+                Ok(())
+            }
+            Judgement::Open => {
+                self.phase = Phase::Holding;
+                self.held.clear();
+                self.head.clear();
+                append(&mut self.head, head);
+                Ok(())
+            }
+        }
+    }
+
+    /// Reads the next piece of the body, behind a `begin` that answered Ok. Where a rule that allows is known
+    /// then, all that was held and the piece go out.
+    pub fn feed<O: Sink>(&mut self, piece: &[u8], sink: &mut O) -> Result<(), WriteFault>
+        requires { CanFeed self.old }
+        ensures feeds { OnOk result ((x : Exchange) (m given : List ℕ) → HasRead self.old x m given
+            → Feeds self.new (O.put sink.old) (O.put sink.new) (O.size sink.old) (O.size sink.new)
+            x (m ++ piece.now) given) }
+        ensures falls { OnErr result ((x : Exchange) (m given : List ℕ) → HasRead self.old x m given
+            → Falls (O.put sink.old) (O.put sink.new) (O.size sink.old) (O.size sink.new)
+            given (front_of x (m ++ piece.now))) }
+        ensures spent { OnErr result (IsSpent self.new) }
+        ensures cause { HasCause (O.faults sink.old) (O.faults sink.new) result }
+        ensures keeps { O.kept sink.old sink.new }
+        ensures limit { limit_of self.new ≡ limit_of self.old }
+    {
+        match self.phase {
+            Phase::Holding => self.feed_held(piece, sink),
+            Phase::Sending => self.feed_sent(piece, sink),
+            Phase::Dropping => {
+                let _judgement = read_on(&mut self.decider, piece);
+                Ok(())
+            }
+            Phase::Idle => unreachable!(),
+        }
+    }
+
+    /// Ends a body that a rule of the head or the window decides, and tells the verdict. What is owed
+    /// goes out: the rest of an allowed response, or the reply that stands in the place of a blocked one.
+    /// The filter then takes only `begin`.
+    pub fn end<O: Sink>(&mut self, sink: &mut O) -> Result<Verdict, WriteFault>
+        requires { CanEnd self.old }
+        ensures makes { IfOk result (λ _. (x : Exchange) (m given : List ℕ) → HasRead self.old x m given
+            → Makes (O.put sink.old) (O.put sink.new) (O.size sink.old) (O.size sink.new)
+            given (whole_of x m)) }
+        ensures verdict { IfOk result (λ v. (x : Exchange) (m given : List ℕ) → HasRead self.old x m given
+            → IsVerdict x.head m v) }
+        ensures falls { OnErr result ((x : Exchange) (m given : List ℕ) → HasRead self.old x m given
+            → Falls (O.put sink.old) (O.put sink.new) (O.size sink.old) (O.size sink.new)
+            given (whole_of x m)) }
+        ensures spent { IsSpent self.new }
+        ensures empty { OnOk result (held_in self.new ≡ 0) }
+        ensures cause { HasCause (O.faults sink.old) (O.faults sink.new) result }
+        ensures keeps { O.kept sink.old sink.new }
+        ensures limit { limit_of self.new ≡ limit_of self.old }
+    {
+        let verdict = finish(&mut self.decider);
+        let put = self.put_end(&verdict, sink);
+        self.phase = Phase::Idle;
+        put?;
+        Ok(verdict)
+    }
+
+    /// How many bytes of the body are held back.
+    pub fn held(&self) -> usize
+        ensures value { result ≡ held_in self.now }
+        ensures exact { (x : Exchange) (m given : List ℕ) → HasRead self.now x m given → result ≡ held_of x m }
+        ensures bounded { result ≤ limit_of self.now }
+    {
+        match self.phase {
+            Phase::Holding => self.held.len(),
+            Phase::Sending => self.writer.kept(),
+            Phase::Dropping | Phase::Idle => 0,
+        }
+    }
+
+    /// The rule of the head or the window that decides if the body ends here; `None` exactly where none
+    /// holds.
+    pub fn window_rule(&self) -> Option<Rule>
+        ensures { (x : Exchange) (m given : List ℕ) → HasRead self.now x m given
+            → result ≡ window_rule_of x.head m }
+    {
+        match &self.decider {
+            Some(decider) => decider.window_rule(),
+            None => None,
+        }
+    }
+}
+
+impl Filter {
+    ghost use Rattle.std.specs.Prelude.{◌≡◌, ℕ, ◌++◌, List, OnErr};
+    ghost use Rattle.orb_io.specs.Told.{Pushes, HasCause};
+    ghost use Rattle.body_filter.specs.Exchanges.{Exchange};
+    ghost use Rattle.body_filter.specs.Reads.{HasRead, CanFeed, Fed, limit_of, ended_by};
+
+    /// Reads a piece of a body that is held: keeps it, or lets all go, or drops all.
+    fn feed_held<O: Sink>(&mut self, piece: &[u8], sink: &mut O) -> Result<(), WriteFault>
+        requires can { CanFeed self.old }
+        requires holding { self.old.phase ≡ Phase.Holding }
+        ensures fed { (x : Exchange) (m given : List ℕ) → HasRead self.old x m given
+            → Fed result self.new (O.put sink.old) (O.put sink.new) (O.size sink.old) (O.size sink.new)
+            x (m ++ piece.now) given }
+        ensures idle { OnErr result (self.new.phase ≡ Phase.Idle) }
+        ensures cause { HasCause (O.faults sink.old) (O.faults sink.new) result }
+        ensures keeps { O.kept sink.old sink.new }
+        ensures limit { limit_of self.new ≡ limit_of self.old }
+    {
+        let fits = piece.len() <= self.limit - self.held.len();
+        let judgement = within(read_on(&mut self.decider, piece), fits);
+        match judgement {
+            Judgement::Allowed => {
+                self.phase = Phase::Sending;
+                let put = release(&mut self.writer, &self.head, &self.held, piece, sink);
+                idle_at_fault(&mut self.phase, put)
+            }
+            Judgement::Blocked => {
+                self.phase = Phase::Dropping;
+                Ok(())
+            }
+            Judgement::Open => {
+                append(&mut self.held, piece);
+                Ok(())
+            }
+        }
+    }
+
+    /// Reads a piece of a body that goes out.
+    fn feed_sent<O: Sink>(&mut self, piece: &[u8], sink: &mut O) -> Result<(), WriteFault>
+        requires can { CanFeed self.old }
+        requires sending { self.old.phase ≡ Phase.Sending }
+        ensures fed { (x : Exchange) (m given : List ℕ) → HasRead self.old x m given
+            → Fed result self.new (O.put sink.old) (O.put sink.new) (O.size sink.old) (O.size sink.new)
+            x (m ++ piece.now) given }
+        ensures idle { OnErr result (self.new.phase ≡ Phase.Idle) }
+        ensures cause { HasCause (O.faults sink.old) (O.faults sink.new) result }
+        ensures keeps { O.kept sink.old sink.new }
+        ensures limit { limit_of self.new ≡ limit_of self.old }
+    {
+        let _judgement = read_on(&mut self.decider, piece);
+        let put = self.writer.put(piece, sink);
+        idle_at_fault(&mut self.phase, put)
+    }
+
+    /// Puts what is owed at the end.
+    fn put_end<O: Sink>(&mut self, verdict: &Verdict, sink: &mut O) -> Result<(), WriteFault>
+        ensures bytes { Pushes (O.put sink.old) (O.put sink.new) (O.size sink.old) (O.size sink.new)
+            result (ended_by self.old.phase self.old verdict.now) }
+        ensures cause { HasCause (O.faults sink.old) (O.faults sink.new) result }
+        ensures keeps { O.kept sink.old sink.new }
+        ensures limit { limit_of self.new ≡ limit_of self.old }
+    {
+        match self.phase {
+            Phase::Sending => self.writer.finish(sink),
+            Phase::Holding => {
+                if verdict.allow {
+                    put_whole(&mut self.writer, &self.head, &self.held, sink)
+                } else {
+                    put_reply(verdict.rule, sink)
+                }
+            }
+            Phase::Dropping | Phase::Idle => put_reply(verdict.rule, sink),
+        }
+    }
+}

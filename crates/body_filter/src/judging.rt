@@ -1,0 +1,85 @@
+//! How far a response is judged.
+ghost use Rattle.std.specs.Prelude.{◌≡◌, ◌||◌, ◌++◌, not, Bool, false, List, ℕ, IsSome};
+ghost use Rattle.response_rules.specs.Heads.{Head};
+ghost use Rattle.response_rules.specs.Settled.{is_sent, is_hopeless};
+ghost use Rattle.response_rules.specs.Reads.{HasRead as DeciderHasRead, IsVerdict, progress_of};
+ghost use Rattle.body_filter.specs.Judged.{Decides, CanDecide, judged};
+
+use response_rules::{Decider, Progress, Verdict};
+
+/// How far a response is judged.
+#[derive(Clone, Copy)]
+pub(crate) enum Judgement {
+    /// It isn't known whether it may go out.
+    Open,
+    /// It may.
+    Allowed,
+    /// It may not.
+    Blocked,
+}
+
+/// The judgement on a response so far.
+pub(crate) fn judge(decider: &Decider) -> Judgement
+    ensures { (h : Head) (m : List ℕ) → DeciderHasRead decider.now h m
+        → result ≡ judged (is_sent h m) (is_hopeless h m) }
+{
+    judged_by(decider.progress(), decider.is_hopeless())
+}
+
+/// Reads the next piece of the body, and gives the judgement then.
+pub(crate) fn read_on(decider: &mut Option<Decider>, piece: &[u8]) -> Judgement
+    requires { IsSome decider.old }
+    ensures reads { (h : Head) (m : List ℕ) → Decides decider.old h m → Decides decider.new h (m ++ piece.now) }
+    ensures gives { (h : Head) (m : List ℕ) → Decides decider.old h m
+        → result ≡ judged (is_sent h (m ++ piece.now)) (is_hopeless h (m ++ piece.now)) }
+{
+    match decider {
+        Some(decider) => {
+            let progress = decider.feed(piece);
+            judged_by(progress, decider.is_hopeless())
+        }
+        None => unreachable!(),
+    }
+}
+
+/// The verdict on the whole body.
+pub(crate) fn finish(decider: &mut Option<Decider>) -> Verdict
+    requires { CanDecide decider.old }
+    ensures { (h : Head) (m : List ℕ) → Decides decider.old h m → IsVerdict h m result }
+{
+    match decider {
+        Some(decider) => decider.finish(),
+        None => unreachable!(),
+    }
+}
+
+fn judged_by(progress: Progress, hopeless: bool) -> Judgement
+    ensures { (sent : Bool) → progress ≡ progress_of sent → result ≡ judged sent hopeless }
+{
+    match progress {
+        Progress::Allowed => Judgement::Allowed,
+        Progress::Open => blocked_if(hopeless),
+    }
+}
+
+fn blocked_if(blocked: bool) -> Judgement
+    ensures { result ≡ judged false blocked }
+{
+    if blocked {
+        Judgement::Blocked
+    } else {
+        Judgement::Open
+    }
+}
+
+/// The judgement, where a body that isn't known to be allowed is given up unless it fits.
+pub(crate) fn within(judgement: Judgement, fits: bool) -> Judgement
+    ensures { (sent hopeless : Bool) → judgement ≡ judged sent hopeless
+        → result ≡ judged sent (hopeless || not fits) }
+{
+    match judgement {
+        Judgement::Open => blocked_if(!fits),
+        Judgement::Allowed => Judgement::Allowed,
+        Judgement::Blocked => Judgement::Blocked,
+    }
+}
