@@ -1,1 +1,4 @@
 pub mod EscapeLemmas
+pub mod Choices
+pub mod ClassLemmas
+pub mod PlaceLemmas

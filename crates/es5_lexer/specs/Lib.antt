@@ -9,3 +9,4 @@ pub mod Tokens
 pub mod Texts
 pub mod Begins
 pub mod Places
+pub mod Rests

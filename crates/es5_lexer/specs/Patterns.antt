@@ -13,13 +13,13 @@ use Rattle.std.specs.Prelude.{◌≡◌, ℕ, Bool, true, ◌||◌, not, List, [
 use Rattle.es5_lexer.specs.Characters.{is_line_end}
 use Rattle.es5_lexer.specs.Names.{AreParts}
 
--- a character of a body that stands for itself: neither `\`, `/`, `[` nor a line terminator
+-- a character of a body that stands for itself: neither `/`, `\`, `[` nor a line terminator
 abbrev pub is_body_char : ℕ → Bool
-is_body_char c = not ((c == 92) || ((c == 47) || ((c == 91) || is_line_end c)))
+is_body_char c = not ((c == 47) || ((c == 92) || ((c == 91) || is_line_end c)))
 
 -- the same at the head of a body: not `*` either
 abbrev pub is_first_char : ℕ → Bool
-is_first_char c = not ((c == 42) || ((c == 92) || ((c == 47) || ((c == 91) || is_line_end c))))
+is_first_char c = not ((c == 42) || ((c == 47) || ((c == 92) || ((c == 91) || is_line_end c))))
 
 -- a character of a class: neither `]`, `\` nor a line terminator
 abbrev pub is_class_char : ℕ → Bool

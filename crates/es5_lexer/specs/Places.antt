@@ -93,9 +93,9 @@ longer p c = if c == 61 then by_equals p else by_itself p c
 
 -- the characters that a host takes
 abbrev pub set_of : Host → ℕ → Bool
-set_of FirstChar c = is_start c
-set_of LaterChar c = is_part c
-set_of FlagChar c = is_part c
+set_of FirstChar = is_start
+set_of LaterChar = is_part
+set_of FlagChar = is_part
 
 -- behind a whole character of it
 abbrev pub behind : Host → Place
@@ -199,7 +199,7 @@ next_in_class c =
     else if is_line_end c then Dead else Pattern Class
 
 abbrev pub next_in_pattern : PatternPlace → ℕ → Place
-next_in_pattern BodyStart c = if (c == 42) || (c == 47) then Dead else next_in_body c
+next_in_pattern BodyStart c = if c == 42 then Dead else if c == 47 then Dead else next_in_body c
 next_in_pattern Body c = if c == 47 then Pattern Flags else next_in_body c
 next_in_pattern BodyEscape c = if is_line_end c then Dead else Pattern Body
 next_in_pattern Class c = next_in_class c

@@ -26,7 +26,7 @@ is_plain q c = not ((c == quote_of q) || ((c == 92) || is_line_end c))
 
 -- a character behind `\` that is the whole of an escape: a line terminator other than CR too
 abbrev pub is_single_escape : ℕ → Bool
-is_single_escape c = not ((c == 13) || ((c == 117) || (c == 120)))
+is_single_escape c = not ((c == 120) || ((c == 117) || (c == 13)))
 
 abbrev mutual
   -- what may stand behind a whole character of a string, its closing quote included
