@@ -10,3 +10,4 @@ pub mod Texts
 pub mod Begins
 pub mod Places
 pub mod Rests
+pub mod Reading

@@ -1,6 +1,6 @@
 -- What stands between tokens: white space, line terminators and comments (ECMA-262 5.1, sections
 -- 7.2, 7.3 and 7.4).
-use Rattle.std.specs.Prelude.{◌≡◌, ℕ, Bool, true, false, ◌&&◌, ◌||◌, not, List, [], ◌∷◌, ◌++◌, ◌==◌}
+use Rattle.std.specs.Prelude.{◌≡◌, ℕ, Bool, true, false, ◌&&◌, ◌||◌, not, List, [], ◌∷◌, ◌==◌, ◌⊎◌}
 use Rattle.std.specs.List.{list_any}
 use Rattle.es5_lexer.specs.Characters.{is_line_end, is_space}
 
@@ -17,14 +17,14 @@ abbrev pub EndsLine : List ℕ → Type 0
 EndsLine [] = Unit {0}
 EndsLine (c ∷ rest) = is_line_end c ≡ true
 
--- a `*` and a `/` stand side by side in the text
-abbrev pub holds_close : List ℕ → Bool
-holds_close [] = false
-holds_close (c ∷ []) = false
-holds_close (c ∷ d ∷ u) = ((c == 42) && (d == 47)) || holds_close (d ∷ u)
+-- MultiLineCommentChars and PostAsteriskCommentChars with the end of their comment: behind a `*` or
+-- not, the first `/` that stands behind a `*` ends it
+abbrev pub IsCommentRest : Bool → List ℕ → Type 0
+IsCommentRest star [] = ⊥
+IsCommentRest star (c ∷ u) =
+    (((star && (c == 47)) ≡ true) × (u ≡ []))
+    ⊎ (((star && (c == 47)) ≡ false) × IsCommentRest (c == 42) u)
 
--- what stands behind `/*`: it ends in `*/`, the first one in it
-pub record IsBlockComment (u : List ℕ) : Type 0 where
-  pub body : List ℕ
-  pub ends : u ≡ body ++ 42 ∷ 47 ∷ []
-  pub first : holds_close (body ++ 42 ∷ []) ≡ false
+-- what stands behind `/*`, the first `*/` included
+abbrev pub IsBlockComment : List ℕ → Type 0
+IsBlockComment u = IsCommentRest false u

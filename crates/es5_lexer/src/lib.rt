@@ -2,8 +2,10 @@
 #![tactic(auto)]
 
 mod characters;
+mod longest;
 mod marks;
 mod places;
 mod tokens;
+mod trivia;
 
 pub use tokens::{Goal, Lexeme, Punct, Token, Word};
