@@ -56,3 +56,17 @@ and_both false b e h = absurd cc
 pub never : {A : Type 0} (b : Bool) → b ≡ true → b ≡ false → A
 never true h e = absurd cc
 never false h e = absurd cc
+
+pub if_true : (b x : Bool) → b ≡ true → (if b then true else x) ≡ true
+if_true true x h = refl
+if_true false x h = absurd cc
+
+pub if_false : (b x : Bool) → b ≡ false → (if b then true else x) ≡ x
+if_false true x h = absurd cc
+if_false false x h = refl
+
+pub not_swap : (a b : Bool) → a ≡ not b → b ≡ not a
+not_swap true true h = h
+not_swap true false h = refl
+not_swap false true h = refl
+not_swap false false h = h

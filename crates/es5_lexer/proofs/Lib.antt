@@ -4,3 +4,10 @@ pub mod ClassLemmas
 pub mod PlaceLemmas
 pub mod FirstLemmas
 pub mod LongestLemmas
+pub mod ListLemmas
+pub mod SpellingLemmas
+pub mod TriviaLemmas
+pub mod TokenLemmas
+pub mod PassLemmas
+pub mod NextLemmas
+

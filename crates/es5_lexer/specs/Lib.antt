@@ -10,4 +10,5 @@ pub mod Texts
 pub mod Begins
 pub mod Places
 pub mod Rests
+pub mod Spelling
 pub mod Reading

@@ -7,7 +7,7 @@
 -- An escape is `\u` and four hexadecimal digits, and gives a character that may stand in its place.
 use Rattle.std.specs.Prelude.{◌≡◌, ℕ, Bool, true, false, if◌then◌else◌, List, [], ◌∷◌, ◌==◌, codes, bytes_eq, Some, None, Option, ◌⊎◌}
 use Rattle.std.specs.List.{list_any}
-use Rattle.es5_lexer.specs.Characters.{is_start, is_part, code_of, is_escape_of}
+use Rattle.es5_lexer.specs.Characters.{is_start, is_part, escaped, is_escape_of}
 use Rattle.es5_lexer.specs.declared.tokens.Word.{Word}
 use Rattle.es5_lexer.specs.declared.tokens.Word.TheVariants.{Break, Case, Catch, Continue, Debugger, Default, Delete, Do, Else, Finally, For, Function, If, In, Instanceof, New, Return, Switch, This, Throw, Try, Typeof, Var, Void, While, With, Class, Const, Enum, Export, Extends, Import, Super, Null, True, False}
 use Rattle.es5_lexer.specs.declared.tokens.Token.{Token}
@@ -30,6 +30,10 @@ abbrev pub IsName : List ℕ → Type 0
 IsName [] = ⊥
 IsName (c ∷ u) = ((is_start c ≡ true) × AreParts u) ⊎ ((c ≡ 92) × AreEscaped is_start u)
 
+abbrev pub spelled_with : Option ℕ → List ℕ → List ℕ
+spelled_with (Some c) v = c ∷ v
+spelled_with None v = []
+
 abbrev mutual
   -- the characters of a name, each escape replaced by what it gives
   pub spelled : List ℕ → List ℕ
@@ -37,7 +41,7 @@ abbrev mutual
   spelled (c ∷ u) = if c == 92 then spelled_escape u else c ∷ spelled u
 
   pub spelled_escape : List ℕ → List ℕ
-  spelled_escape (x ∷ a ∷ b ∷ c ∷ d ∷ u) = code_of a b c d ∷ spelled u
+  spelled_escape (x ∷ a ∷ b ∷ c ∷ d ∷ u) = spelled_with (escaped a b c d) (spelled u)
   spelled_escape _ = []
 
 -- it is written with an escape

@@ -1,8 +1,9 @@
 -- What the calls on a text compute: trivia at its front, and the longest token there. The files on
 -- trivia and on the kinds of tokens say what these are; this says no more of them.
-use Rattle.std.specs.Prelude.{◌≡◌, ℕ, Bool, true, false, ◌&&◌, ◌==◌, if◌then◌else◌, Option, Some, None, List, [], ◌∷◌, length, drop, ◌-◌}
+use Rattle.std.specs.Prelude.{◌≡◌, ℕ, Bool, true, false, ◌&&◌, ◌==◌, if◌then◌else◌, Option, Some, None, List, [], ◌∷◌, length, take, drop, ◌-◌}
 use Rattle.es5_lexer.specs.Characters.{is_line_end, is_space}
 use Rattle.es5_lexer.specs.Names.{name_token}
+use Rattle.es5_lexer.specs.Tokens.{may_precede}
 use Rattle.es5_lexer.specs.Texts.{ended_by}
 use Rattle.es5_lexer.specs.Places.{first, next, ended}
 use Rattle.es5_lexer.specs.declared.tokens.Goal.{Goal}
@@ -13,6 +14,10 @@ use Rattle.es5_lexer.specs.declared.places.Kind.TheVariants.{Name as AName, Punc
 use Rattle.es5_lexer.specs.declared.places.Place.{Place}
 use Rattle.es5_lexer.specs.declared.trivia.Trivium.{Trivium}
 use Rattle.es5_lexer.specs.declared.longest.Longest.{Longest}
+
+-- so many characters, the last ones of the text
+abbrev pub last : ℕ → List ℕ → List ℕ
+last count u = drop (length u - count) u
 
 abbrev pub trivium_with : Bool → List ℕ → Option Trivium
 trivium_with ends_line rest = Some (record { ends_line = ends_line; left = length rest })
@@ -67,12 +72,20 @@ token_of ANumber u = Number
 token_of AText u = Text
 token_of APattern u = Pattern
 
--- what is left behind trivia
-abbrev pub behind : List ℕ → Trivium → List ℕ
-behind u t = drop (length u - t.left) u
-
 -- from the first text to the second there are only trivia, and a line has ended before and behind
 -- them or hasn't
 pub data Passes : Bool → List ℕ → Bool → List ℕ → Type 0 where
   none : (ended : Bool) (u : List ℕ) → Passes ended u ended u
-  one : (ended : Bool) (u : List ℕ) (t : Trivium) (last : Bool) (rest : List ℕ) → leading_trivium u ≡ Some t → Passes (if t.ends_line then true else ended) (behind u t) last rest → Passes ended u last rest
+  one : (ended : Bool) (u : List ℕ) (t : Trivium) (flag : Bool) (rest : List ℕ) → leading_trivium u ≡ Some t → Passes (if t.ends_line then true else ended) (last t.left u) flag rest → Passes ended u flag rest
+
+-- the token at the front, and how many characters stand behind it
+abbrev pub standing : List ℕ → Longest → Option (Token × ℕ)
+standing u x =
+    if may_precede (token_of x.kind (take (length u - x.left) u)) (last x.left u) then Some (token_of x.kind (take (length u - x.left) u), x.left) else None
+
+abbrev pub token_at_from : List ℕ → Option Longest → Option (Token × ℕ)
+token_at_from u None = None
+token_at_from u (Some x) = standing u x
+
+abbrev pub token_at : Goal → List ℕ → Option (Token × ℕ)
+token_at g u = token_at_from u (longest_token g u)

@@ -91,12 +91,28 @@ pub record LexesFrom (ended : Bool) (w : List Mark) (end : Goal) (tokens : List 
 abbrev pub Lexes : List Mark → Goal → List Lexeme → Type 0
 Lexes w end tokens = LexesFrom false w end tokens
 
--- a text begins with trivia and this token, and the rest stands behind it: all slashes read by the
--- one goal
+-- a token is among the items
+abbrev pub has_token : List Item → Bool
+has_token [] = false
+has_token (blank m ∷ items) = has_token items
+has_token (line a b q ∷ items) = has_token items
+has_token (block a b q ∷ items) = has_token items
+has_token (token t a q ∷ items) = true
+
+-- whether a line has ended since the last token, behind the items
+abbrev pub ended_behind : Bool → List Item → Bool
+ended_behind ended [] = ended
+ended_behind ended (blank m ∷ items) = ended_behind (ended_by ended m.character) items
+ended_behind ended (line a b q ∷ items) = ended_behind ended items
+ended_behind ended (block a b q ∷ items) = ended_behind (ended_in ended (chars q)) items
+ended_behind ended (token t a q ∷ items) = ended_behind false items
+
+-- a text is trivia, the token and the rest, which need have no tokens; a slash is read by the goal
 pub record IsNextToken (g : Goal) (u : List ℕ) (x : Lexeme) (rest : List ℕ) : Type 0 where
   pub trivia : List Item
-  pub first : Mark
-  pub others : List Mark
-  pub spells : read_by g u ≡ text (trivia ++ token x.token first others ∷ []) (read_by g rest)
-  pub fits : Fit (trivia ++ token x.token first others ∷ []) (read_by g rest) g
-  pub gives : lexemes false (trivia ++ token x.token first others ∷ []) ≡ x ∷ []
+  pub only : has_token trivia ≡ false
+  pub token : List ℕ
+  pub spells : read_by g u ≡ text trivia (read_by g (token ++ rest))
+  pub fits : Fit trivia (read_by g (token ++ rest)) g
+  pub stands : Stands g x.token token rest
+  pub newline : x.newline ≡ ended_behind false trivia

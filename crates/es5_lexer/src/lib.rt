@@ -4,8 +4,11 @@
 mod characters;
 mod longest;
 mod marks;
+mod names;
+mod next;
 mod places;
 mod tokens;
 mod trivia;
 
+pub use next::{next_token, rest_is_trivia};
 pub use tokens::{Goal, Lexeme, Punct, Token, Word};
