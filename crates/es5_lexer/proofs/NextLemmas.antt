@@ -38,7 +38,7 @@ found_next g w place v b t n p e =
     }
 
 -- the walk over the trivia of a next token
-next_passes : (g : Goal) (u : List ℕ) (x : Lexeme) (rest : List ℕ) (h : IsNextToken g u x rest) → Passes false u (ended_behind false h.trivia) (h.token ++ rest)
+pub next_passes : (g : Goal) (u : List ℕ) (x : Lexeme) (rest : List ℕ) (h : IsNextToken g u x rest) → Passes false u (ended_behind false h.trivia) (h.token ++ rest)
 next_passes g u x rest h =
     let p = items_pass h.trivia (read_by g (h.token ++ rest)) g false h.only h.fits in
     subst (λ (w : List ℕ). Passes false w (ended_behind false h.trivia) (h.token ++ rest)) (sym (ap chars h.spells) ∙ chars-read_by g u)

@@ -2,6 +2,7 @@
 #![tactic(auto)]
 
 mod characters;
+mod laws;
 mod longest;
 mod marks;
 mod names;
@@ -10,5 +11,6 @@ mod places;
 mod tokens;
 mod trivia;
 
+pub use laws::{one_list_of_tokens, one_next_token};
 pub use next::{next_token, rest_is_trivia};
 pub use tokens::{Goal, Lexeme, Punct, Token, Word};
