@@ -1,13 +1,10 @@
-// A library with one function.
+//! The grammar of programs (ECMA-262 5.1, sections 11 to 14), as trees over the tokens of
+//! `es5_lexer`; definitions and their laws, and no machine.
+//!
+//! `specs/Trees` has a constructor for each alternative of a rule, `specs/Spelling` the tokens of each
+//! tree in front of what follows, `specs/Good` what a rule asks besides its tokens, `specs/Endings`
+//! where a semicolon may be left out, and `specs/Nesting` how deep a tree nests. `specs/Programs` joins
+//! them: `IsProgram` says which lists of tokens are programs.
 #![tactic(auto)]
 
-ghost use Rattle.std.specs.Prelude.{◌≡◌};
-ghost use Rattle.es5_trees.specs.Echo.{echo_of};
-
-// The `ensures` clause is the contract: what `echo` returns is `echo_of` of its argument, a definition
-// in `specs/Echo.antt`, which a caller's clause can cite too.
-pub fn echo(x: usize) -> usize
-    ensures { result ≡ echo_of x }
-{
-    x
-}
+pub mod laws;
