@@ -125,8 +125,9 @@ equals_grown _ q e = absurd cc
 doubled : (p : Punct) (c n : ℕ) (q r : Punct) → (if c == n then Some q else None) ≡ Some r → spelling q ≡ spelling p ++ n ∷ [] → is_under RegExp q ≡ true → Grows p c r
 doubled p c n q r e s u =
     elim (split (λ (o : Option Punct). o ≡ Some r) (c == n) (Some q) None e) [
-        inl (t, f) ↦ grown p c q r f (s ∙ ap (λ (x : ℕ). spelling p ++ x ∷ []) (sym (is_same c n t))) u
-      | inr (_, f) ↦ absurd cc ]
+      | inl (t, f) ↦ grown p c q r f (s ∙ ap (λ (x : ℕ). spelling p ++ x ∷ []) (sym (is_same c n t))) u
+      | inr (_, f) ↦ absurd cc
+    ]
 
 itself_grown : (p : Punct) (c : ℕ) (q : Punct) → by_itself p c ≡ Some q → Grows p c q
 itself_grown Less c q e = doubled Less c 60 ShiftLeft q e refl refl
@@ -141,8 +142,9 @@ itself_grown _ c q e = absurd cc
 longer_grown : (p : Punct) (c : ℕ) (q : Punct) → longer p c ≡ Some q → Grows p c q
 longer_grown p c q e =
     elim (split (λ (o : Option Punct). o ≡ Some q) (c == 61) (by_equals p) (by_itself p c) e) [
-        inl (t, f) ↦ subst (λ (x : ℕ). Grows p x q) (sym (is_same c 61 t)) (equals_grown p q f)
-      | inr (_, f) ↦ itself_grown p c q f ]
+      | inl (t, f) ↦ subst (λ (x : ℕ). Grows p x q) (sym (is_same c 61 t)) (equals_grown p q f)
+      | inr (_, f) ↦ itself_grown p c q f
+    ]
 
 -- a text of the other kind where the kinds are the same
 as_kind : (g : Goal) (k l : Kind) (w : List ℕ) → k ≡ l → IsKind g l w → IsKind g k w
@@ -170,8 +172,9 @@ Single c p = (spelling p ≡ c ∷ []) × (is_under RegExp p ≡ true)
 single : (c n : ℕ) (q : Punct) (others : Option Punct) (p : Punct) → (if c == n then Some q else others) ≡ Some p → spelling q ≡ n ∷ [] → is_under RegExp q ≡ true → (others ≡ Some p → Single c p) → Single c p
 single c n q others p e s u further =
     elim (split (λ (o : Option Punct). o ≡ Some p) (c == n) (Some q) others e) [
-        inl (t, f) ↦ let same : q ≡ p = cc in subst (λ (x : Punct). Single c x) same (s ∙ ap (λ (x : ℕ). x ∷ []) (sym (is_same c n t)), u)
-      | inr (_, f) ↦ further f ]
+      | inl (t, f) ↦ let same : q ≡ p = cc in subst (λ (x : Punct). Single c x) same (s ∙ ap (λ (x : ℕ). x ∷ []) (sym (is_same c n t)), u)
+      | inr (_, f) ↦ further f
+    ]
 
 mark_single : (c : ℕ) (p : Punct) → mark c ≡ Some p → Single c p
 mark_single c p e =
@@ -231,7 +234,7 @@ first_goes g ANumber c u (inr (inl (z, h))) =
     let d = nonzero_digit c z in
     else_in (At ANumber u) (is_start c) _ _ (ap is_start_class (digit c d.0))
     (else_in (At ANumber u) (c == 92) _ _ d.1
-     (else_in (At ANumber u) (c == 48) _ _ d.2 (then_in (At ANumber u) (is_nonzero c) _ _ z (refl, h))))
+    (else_in (At ANumber u) (c == 48) _ _ d.2 (then_in (At ANumber u) (is_nonzero c) _ _ z (refl, h))))
 first_goes g ANumber c u (inr (inr (e, h))) = at_first g ANumber c 46 u e (point_goes g u h)
 first_goes g AText c u (inl (e, h)) =
     at_first g AText c 34 u e (else_in (At AText u) (is_start 34) _ _ (ap is_start_class double_quote) (refl, h))
@@ -255,17 +258,24 @@ mark_comes g k c u None e h = absurd h
 pub first_comes : (g : Goal) (k : Kind) (c : ℕ) (u : List ℕ) → Rest (first g c) k u → IsKind g k (c ∷ u)
 first_comes g k c u h =
     elim (split (At k u) (is_start c) _ _ h) [
-        inl (t, (e, r)) ↦ as_kind g k AName (c ∷ u) e (inl (t, r))
+      | inl (t, (e, r)) ↦ as_kind g k AName (c ∷ u) e (inl (t, r))
       | inr (_, h1) ↦ elim (split (At k u) (c == 92) _ _ h1) [
-            inl (t, (e, r)) ↦ as_kind g k AName (c ∷ u) e (inr (is_same c 92 t, r))
-          | inr (_, h2) ↦ elim (split (At k u) (c == 48) _ _ h2) [
-                inl (t, (e, r)) ↦ as_kind g k ANumber (c ∷ u) e (inl (is_same c 48 t, r))
-              | inr (_, h3) ↦ elim (split (At k u) (is_nonzero c) _ _ h3) [
-                    inl (t, (e, r)) ↦ as_kind g k ANumber (c ∷ u) e (inr (inl (t, r)))
-                  | inr (_, h4) ↦ elim (split (At k u) (c == 34) _ _ h4) [
-                        inl (t, (e, r)) ↦ as_kind g k AText (c ∷ u) e (inl (is_same c 34 t, r))
-                      | inr (_, h5) ↦ elim (split (At k u) (c == 39) _ _ h5) [
-                            inl (t, (e, r)) ↦ as_kind g k AText (c ∷ u) e (inr (is_same c 39 t, r))
-                          | inr (_, h6) ↦ elim (split (At k u) (c == 47) _ _ h6) [
-                                inl (t, r) ↦ slash_comes g k c u (is_same c 47 t) r
-                              | inr (_, r) ↦ mark_comes g k c u (mark c) refl r ] ] ] ] ] ] ]
+        | inl (t, (e, r)) ↦ as_kind g k AName (c ∷ u) e (inr (is_same c 92 t, r))
+        | inr (_, h2) ↦ elim (split (At k u) (c == 48) _ _ h2) [
+          | inl (t, (e, r)) ↦ as_kind g k ANumber (c ∷ u) e (inl (is_same c 48 t, r))
+          | inr (_, h3) ↦ elim (split (At k u) (is_nonzero c) _ _ h3) [
+            | inl (t, (e, r)) ↦ as_kind g k ANumber (c ∷ u) e (inr (inl (t, r)))
+            | inr (_, h4) ↦ elim (split (At k u) (c == 34) _ _ h4) [
+              | inl (t, (e, r)) ↦ as_kind g k AText (c ∷ u) e (inl (is_same c 34 t, r))
+              | inr (_, h5) ↦ elim (split (At k u) (c == 39) _ _ h5) [
+                | inl (t, (e, r)) ↦ as_kind g k AText (c ∷ u) e (inr (is_same c 39 t, r))
+                | inr (_, h6) ↦ elim (split (At k u) (c == 47) _ _ h6) [
+                  | inl (t, r) ↦ slash_comes g k c u (is_same c 47 t) r
+                  | inr (_, r) ↦ mark_comes g k c u (mark c) refl r
+                ]
+              ]
+            ]
+          ]
+        ]
+      ]
+    ]

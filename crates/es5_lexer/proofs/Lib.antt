@@ -10,5 +10,4 @@ pub mod TriviaLemmas
 pub mod TokenLemmas
 pub mod PassLemmas
 pub mod NextLemmas
-
 pub mod LawLemmas

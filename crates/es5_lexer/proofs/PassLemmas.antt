@@ -131,8 +131,8 @@ items_pass (i ∷ items) rest g a o h =
     let p = items_pass items rest g (if item_ends i then true else a) s.1 f.1 in
     subst (λ (w : List Mark). Passes a (chars w) (ended_behind a (i ∷ items)) (chars rest)) (first_text i items rest)
     (one a (chars (text (i ∷ []) (text items rest))) t _ (chars rest) found
-     (subst (λ (b : Bool). Passes (if item_ends i then true else a) (last t.left (chars (text (i ∷ []) (text items rest)))) b (chars rest)) (sym (item_flag i items a s.0))
-      (subst (λ (w : List ℕ). Passes (if item_ends i then true else a) w (ended_behind (if item_ends i then true else a) items) (chars rest)) (sym behind) p)))
+    (subst (λ (b : Bool). Passes (if item_ends i then true else a) (last t.left (chars (text (i ∷ []) (text items rest)))) b (chars rest)) (sym (item_flag i items a s.0))
+    (subst (λ (w : List ℕ). Passes (if item_ends i then true else a) w (ended_behind (if item_ends i then true else a) items) (chars rest)) (sym behind) p)))
 
 -- the same walk, by other names
 pub passes_next : (u : List ℕ) (b : Bool) (v : List ℕ) (t : Trivium) (c : Bool) (w : List ℕ) → Passes false u b v → leading_trivium v ≡ Some t → c ≡ (if t.ends_line then true else b) → w ≡ last t.left v → Passes false u c w

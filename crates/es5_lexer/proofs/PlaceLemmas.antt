@@ -48,7 +48,6 @@ host_behind FirstChar k u h = (h.0, h.1)
 host_behind LaterChar k u h = (h.0, h.1)
 host_behind FlagChar k u h = (h.0, h.1)
 
-
 parts_go : (host : Host) (k : Kind) (c : ℕ) (u : List ℕ) → is_part ≡ set_of host → k ≡ kind_in host → AreParts (c ∷ u) → Rest (next_in_parts host c) k u
 parts_go host k c u same e (inl (h, p)) =
     then_in (At k u) (is_part c) _ _ h (behind_host host k u e p)
@@ -59,10 +58,12 @@ parts_go host k c u same e (inr (h, p)) =
 parts_come : (host : Host) (k : Kind) (c : ℕ) (u : List ℕ) → is_part ≡ set_of host → Rest (next_in_parts host c) k u → (k ≡ kind_in host) × AreParts (c ∷ u)
 parts_come host k c u same h =
     elim (split (At k u) (is_part c) _ _ h) [
-        inl (t, r) ↦ let b = host_behind host k u r in (b.0, inl (t, b.1))
+      | inl (t, r) ↦ let b = host_behind host k u r in (b.0, inl (t, b.1))
       | inr (_, r) ↦ elim (split (At k u) (c == 92) _ _ r) [
-            inl (t, (e, p)) ↦ (e, inr (is_same c 92 t, subst (λ (f : ℕ → Bool). AreEscaped f u) (sym same) p))
-          | inr (_, z) ↦ absurd z ] ]
+        | inl (t, (e, p)) ↦ (e, inr (is_same c 92 t, subst (λ (f : ℕ → Bool). AreEscaped f u) (sym same) p))
+        | inr (_, z) ↦ absurd z
+      ]
+    ]
 
 -- the digits of an escape, one by one
 
@@ -128,8 +129,9 @@ escape_goes host (ThreeDigits a b d) k c u e h =
 escape_comes : (host : Host) (seen : Seen) (k : Kind) (c : ℕ) (u : List ℕ) → Rest (next_in_escape host seen c) k u → (k ≡ kind_in host) × EscapeRest host seen (c ∷ u)
 escape_comes host EscapeMark k c u h =
     elim (split (At k u) (c == 117) _ _ h) [
-        inl (t, (e, r)) ↦ (e, letter_mark host c u (is_same c 117 t) r)
-      | inr (_, z) ↦ absurd z ]
+      | inl (t, (e, r)) ↦ (e, letter_mark host c u (is_same c 117 t) r)
+      | inr (_, z) ↦ absurd z
+    ]
 escape_comes host EscapeLetter k c u h =
     elim (split (At k u) (is_hex c) _ _ h) [ inl (t, (e, r)) ↦ (e, one_letter host c u r) | inr (_, z) ↦ absurd z ]
 escape_comes host (OneDigit a) k c u h =
@@ -138,8 +140,9 @@ escape_comes host (TwoDigits a b) k c u h =
     elim (split (At k u) (is_hex c) _ _ h) [ inl (t, (e, r)) ↦ (e, three_two host a b c u r) | inr (_, z) ↦ absurd z ]
 escape_comes host (ThreeDigits a b d) k c u h =
     elim (split (At k u) (is_escape_of (set_of host) a b d c) _ _ h) [
-        inl (t, r) ↦ let b = host_behind host k u r in (b.0, (t, b.1))
-      | inr (_, z) ↦ absurd z ]
+      | inl (t, r) ↦ let b = host_behind host k u r in (b.0, (t, b.1))
+      | inr (_, z) ↦ absurd z
+    ]
 
 -- punctuators
 
@@ -152,7 +155,7 @@ mark_goes p k c u (inl (q, e, h)) = subst (λ (o : Option Punct). Rest (next_by 
 mark_goes p k c u (inr (dot, d, e, h)) =
     subst (λ (q : Punct). Rest (next_by (longer q c) q c) k u) (sym dot)
     (subst (λ (o : Option Punct). Rest (next_by o Dot c) k u) (sym (choice None (c == 61)))
-     (then_in (At k u) (is_digit c) _ _ d (e, h)))
+    (then_in (At k u) (is_digit c) _ _ d (e, h)))
 
 dot_is : (p : Punct) → is_dot p ≡ true → p ≡ Dot
 dot_is Dot h = refl
@@ -162,8 +165,9 @@ mark_comes : (p : Punct) (k : Kind) (c : ℕ) (u : List ℕ) (o : Option Punct) 
 mark_comes p k c u (Some q) e h = inl (q, e, h)
 mark_comes p k c u None e h =
     elim (split (At k u) (is_dot p && is_digit c) _ _ h) [
-        inl (t, (f, r)) ↦ inr (dot_is p (and_left _ _ t), and_right (is_dot p) (is_digit c) t, f, r)
-      | inr (_, z) ↦ absurd z ]
+      | inl (t, (f, r)) ↦ inr (dot_is p (and_left _ _ t), and_right (is_dot p) (is_digit c) t, f, r)
+      | inr (_, z) ↦ absurd z
+    ]
 
 -- numbers
 
@@ -213,27 +217,36 @@ exponent_comes k c u h =
 number_comes : (place : NumberPlace) (k : Kind) (c : ℕ) (u : List ℕ) → Rest (next_in_number place c) k u → (k ≡ ANumber) × NumberRest place (c ∷ u)
 number_comes Zero k c u h =
     elim (split (At k u) (is_octal c) _ _ h) [
-        inl (t, (e, r)) ↦ (e, inl (t, r))
+      | inl (t, (e, r)) ↦ (e, inl (t, r))
       | inr (_, g) ↦ elim (split (At k u) (is_hex_mark c) _ _ g) [
-            inl (t, (e, r)) ↦ (e, inr (inr (inr (t, r))))
-          | inr (_, f) ↦ elim (split (At k u) (c == 46) _ _ f) [
-                inl (t, (e, r)) ↦ (e, inr (inl (is_same c 46 t, r)))
-              | inr (_, x) ↦ let m = exponent_comes k c u x in (m.0, inr (inr (inl m.1))) ] ] ]
+        | inl (t, (e, r)) ↦ (e, inr (inr (inr (t, r))))
+        | inr (_, f) ↦ elim (split (At k u) (c == 46) _ _ f) [
+          | inl (t, (e, r)) ↦ (e, inr (inl (is_same c 46 t, r)))
+          | inr (_, x) ↦ let m = exponent_comes k c u x in (m.0, inr (inr (inl m.1)))
+        ]
+      ]
+    ]
 number_comes Digit k c u h =
     elim (split (At k u) (is_digit c) _ _ h) [
-        inl (t, (e, r)) ↦ (e, inl (t, r))
+      | inl (t, (e, r)) ↦ (e, inl (t, r))
       | inr (_, f) ↦ elim (split (At k u) (c == 46) _ _ f) [
-            inl (t, (e, r)) ↦ (e, inr (inl (is_same c 46 t, r)))
-          | inr (_, x) ↦ let m = exponent_comes k c u x in (m.0, inr (inr m.1)) ] ]
+        | inl (t, (e, r)) ↦ (e, inr (inl (is_same c 46 t, r)))
+        | inr (_, x) ↦ let m = exponent_comes k c u x in (m.0, inr (inr m.1))
+      ]
+    ]
 number_comes Point k c u h =
     elim (split (At k u) (is_digit c) _ _ h) [
-        inl (t, (e, r)) ↦ (e, inl (t, r))
-      | inr (_, x) ↦ let m = exponent_comes k c u x in (m.0, inr m.1) ]
+      | inl (t, (e, r)) ↦ (e, inl (t, r))
+      | inr (_, x) ↦ let m = exponent_comes k c u x in (m.0, inr m.1)
+    ]
 number_comes Exponent k c u h =
     elim (split (At k u) (is_sign c) _ _ h) [
-        inl (t, (e, r)) ↦ (e, inl (t, r))
+      | inl (t, (e, r)) ↦ (e, inl (t, r))
       | inr (_, f) ↦ elim (split (At k u) (is_digit c) _ _ f) [
-            inl (t, (e, r)) ↦ (e, inr (t, r)) | inr (_, z) ↦ absurd z ] ]
+        | inl (t, (e, r)) ↦ (e, inr (t, r))
+        | inr (_, z) ↦ absurd z
+      ]
+    ]
 number_comes Sign k c u h =
     elim (split (At k u) (is_digit c) _ _ h) [ inl (t, (e, r)) ↦ (e, (t, r)) | inr (_, z) ↦ absurd z ]
 number_comes ExponentDigit k c u h =
@@ -269,12 +282,15 @@ chars_go q k c u e (inr (inr (s, h))) =
 chars_come : (q : Quote) (k : Kind) (c : ℕ) (u : List ℕ) → Rest (next_in_chars q c) k u → (k ≡ AText) × IsStringRest q (c ∷ u)
 chars_come q k c u h =
     elim (split (At k u) (c == quote_of q) _ _ h) [
-        inl (t, (e, r)) ↦ (e, inl (is_same c (quote_of q) t, r))
+      | inl (t, (e, r)) ↦ (e, inl (is_same c (quote_of q) t, r))
       | inr (n, g) ↦ elim (split (At k u) (c == 92) _ _ g) [
-            inl (t, (e, r)) ↦ (e, inr (inr (is_same c 92 t, r)))
-          | inr (m, f) ↦ elim (split (At k u) (is_line_end c) _ _ f) [
-                inl (_, z) ↦ absurd z
-              | inr (l, (e, r)) ↦ (e, inr (inl (or_not _ _ n (or_not _ _ m (true_not _ l)), r))) ] ] ]
+        | inl (t, (e, r)) ↦ (e, inr (inr (is_same c 92 t, r)))
+        | inr (m, f) ↦ elim (split (At k u) (is_line_end c) _ _ f) [
+          | inl (_, z) ↦ absurd z
+          | inr (l, (e, r)) ↦ (e, inr (inl (or_not _ _ n (or_not _ _ m (true_not _ l)), r)))
+        ]
+      ]
+    ]
 
 text_escape_goes : (q : Quote) (k : Kind) (c : ℕ) (u : List ℕ) → k ≡ AText → IsBehindEscape q (c ∷ u) → Rest (behind_text_escape q c) k u
 text_escape_goes q k c u e (inl (s, h)) = subst (λ (x : ℕ). Rest (behind_text_escape q x) k u) (sym s) (e, h)
@@ -291,12 +307,15 @@ text_escape_goes q k c u e (inr (inr (inr (p, h)))) =
 text_escape_comes : (q : Quote) (k : Kind) (c : ℕ) (u : List ℕ) → Rest (behind_text_escape q c) k u → (k ≡ AText) × IsBehindEscape q (c ∷ u)
 text_escape_comes q k c u h =
     elim (split (At k u) (c == 120) _ _ h) [
-        inl (t, (e, r)) ↦ (e, inl (is_same c 120 t, r))
+      | inl (t, (e, r)) ↦ (e, inl (is_same c 120 t, r))
       | inr (n, g) ↦ elim (split (At k u) (c == 117) _ _ g) [
-            inl (t, (e, r)) ↦ (e, inr (inl (is_same c 117 t, r)))
-          | inr (m, f) ↦ elim (split (At k u) (c == 13) _ _ f) [
-                inl (t, (e, r)) ↦ (e, inr (inr (inl (is_same c 13 t, r))))
-              | inr (l, (e, r)) ↦ (e, inr (inr (inr (or_not _ _ n (or_not _ _ m (true_not _ l)), r)))) ] ] ]
+        | inl (t, (e, r)) ↦ (e, inr (inl (is_same c 117 t, r)))
+        | inr (m, f) ↦ elim (split (At k u) (c == 13) _ _ f) [
+          | inl (t, (e, r)) ↦ (e, inr (inr (inl (is_same c 13 t, r))))
+          | inr (l, (e, r)) ↦ (e, inr (inr (inr (or_not _ _ n (or_not _ _ m (true_not _ l)), r))))
+        ]
+      ]
+    ]
 
 -- no string goes on by a LF
 no_lf : (q : Quote) (u : List ℕ) → IsStringRest q (10 ∷ u) → ⊥
@@ -326,8 +345,9 @@ text_comes q Chars k c u h = chars_come q k c u h
 text_comes q TextEscape k c u h = text_escape_comes q k c u h
 text_comes q Cr k c u h =
     elim (split (At k u) (c == 10) _ _ h) [
-        inl (t, (e, r)) ↦ (e, inr (is_same c 10 t, r))
-      | inr (_, g) ↦ let r = chars_come q k c u g in (r.0, inl r.1) ]
+      | inl (t, (e, r)) ↦ (e, inr (is_same c 10 t, r))
+      | inr (_, g) ↦ let r = chars_come q k c u g in (r.0, inl r.1)
+    ]
 text_comes q (Hex One) k c u h =
     elim (split (At k u) (is_hex c) _ _ h) [ inl (t, (e, r)) ↦ (e, (t, r)) | inr (_, z) ↦ absurd z ]
 text_comes q (Hex Two) k c u h =
@@ -379,12 +399,15 @@ pattern_goes Flags k c u e h = parts_go FlagChar k c u refl e h
 body_comes : (k : Kind) (c : ℕ) (u : List ℕ) → Rest (next_in_body c) k u → (k ≡ APattern) × (((not ((c == 92) || ((c == 91) || is_line_end c)) ≡ true) × IsBodyRest u) ⊎ (((c ≡ 92) × PatternRest BodyEscape u) ⊎ ((c ≡ 91) × IsClassRest u)))
 body_comes k c u h =
     elim (split (At k u) (c == 92) _ _ h) [
-        inl (t, (e, r)) ↦ (e, inr (inl (is_same c 92 t, r)))
+      | inl (t, (e, r)) ↦ (e, inr (inl (is_same c 92 t, r)))
       | inr (n, g) ↦ elim (split (At k u) (c == 91) _ _ g) [
-            inl (t, (e, r)) ↦ (e, inr (inr (is_same c 91 t, r)))
-          | inr (m, f) ↦ elim (split (At k u) (is_line_end c) _ _ f) [
-                inl (_, z) ↦ absurd z
-              | inr (l, (e, r)) ↦ (e, inl (or_not _ _ n (or_not _ _ m (true_not _ l)), r)) ] ] ]
+        | inl (t, (e, r)) ↦ (e, inr (inr (is_same c 91 t, r)))
+        | inr (m, f) ↦ elim (split (At k u) (is_line_end c) _ _ f) [
+          | inl (_, z) ↦ absurd z
+          | inr (l, (e, r)) ↦ (e, inl (or_not _ _ n (or_not _ _ m (true_not _ l)), r))
+        ]
+      ]
+    ]
 
 start_of : (c : ℕ) (u : List ℕ) → (c == 42) ≡ false → (c == 47) ≡ false → (((not ((c == 92) || ((c == 91) || is_line_end c)) ≡ true) × IsBodyRest u) ⊎ (((c ≡ 92) × PatternRest BodyEscape u) ⊎ ((c ≡ 91) × IsClassRest u))) → IsBody (c ∷ u)
 start_of c u n m (inl (p, h)) = inl (or_not _ _ n (or_not _ _ m p), h)
@@ -397,28 +420,38 @@ body_of c u m (inr h) = inr (inr h)
 pattern_comes : (place : PatternPlace) (k : Kind) (c : ℕ) (u : List ℕ) → Rest (next_in_pattern place c) k u → (k ≡ APattern) × PatternRest place (c ∷ u)
 pattern_comes BodyStart k c u h =
     elim (split (At k u) (c == 42) _ _ h) [
-        inl (_, z) ↦ absurd z
+      | inl (_, z) ↦ absurd z
       | inr (n, g) ↦ elim (split (At k u) (c == 47) _ _ g) [
-            inl (_, z) ↦ absurd z
-          | inr (m, f) ↦ let r = body_comes k c u f in (r.0, start_of c u n m r.1) ] ]
+        | inl (_, z) ↦ absurd z
+        | inr (m, f) ↦ let r = body_comes k c u f in (r.0, start_of c u n m r.1)
+      ]
+    ]
 pattern_comes Body k c u h =
     elim (split (At k u) (c == 47) _ _ h) [
-        inl (t, (e, r)) ↦ (e, inl (is_same c 47 t, r))
-      | inr (m, f) ↦ let r = body_comes k c u f in (r.0, body_of c u m r.1) ]
+      | inl (t, (e, r)) ↦ (e, inl (is_same c 47 t, r))
+      | inr (m, f) ↦ let r = body_comes k c u f in (r.0, body_of c u m r.1)
+    ]
 pattern_comes BodyEscape k c u h =
     elim (split (At k u) (is_line_end c) _ _ h) [
-        inl (_, z) ↦ absurd z | inr (l, (e, r)) ↦ (e, (true_not _ l, r)) ]
+      | inl (_, z) ↦ absurd z
+      | inr (l, (e, r)) ↦ (e, (true_not _ l, r))
+    ]
 pattern_comes Class k c u h =
     elim (split (At k u) (c == 93) _ _ h) [
-        inl (t, (e, r)) ↦ (e, inl (is_same c 93 t, r))
+      | inl (t, (e, r)) ↦ (e, inl (is_same c 93 t, r))
       | inr (n, g) ↦ elim (split (At k u) (c == 92) _ _ g) [
-            inl (t, (e, r)) ↦ (e, inr (inr (is_same c 92 t, r)))
-          | inr (m, f) ↦ elim (split (At k u) (is_line_end c) _ _ f) [
-                inl (_, z) ↦ absurd z
-              | inr (l, (e, r)) ↦ (e, inr (inl (or_not _ _ n (or_not _ _ m (true_not _ l)), r))) ] ] ]
+        | inl (t, (e, r)) ↦ (e, inr (inr (is_same c 92 t, r)))
+        | inr (m, f) ↦ elim (split (At k u) (is_line_end c) _ _ f) [
+          | inl (_, z) ↦ absurd z
+          | inr (l, (e, r)) ↦ (e, inr (inl (or_not _ _ n (or_not _ _ m (true_not _ l)), r)))
+        ]
+      ]
+    ]
 pattern_comes ClassEscape k c u h =
     elim (split (At k u) (is_line_end c) _ _ h) [
-        inl (_, z) ↦ absurd z | inr (l, (e, r)) ↦ (e, (true_not _ l, r)) ]
+      | inl (_, z) ↦ absurd z
+      | inr (l, (e, r)) ↦ (e, (true_not _ l, r))
+    ]
 pattern_comes Flags k c u h = parts_come FlagChar k c u refl h
 
 -- all places

@@ -194,7 +194,7 @@ other : (c : ℕ) (w : List ℕ) → is_line_end c ≡ false → is_space c ≡ 
 other c w l s e =
     else_in (λ (o : Option _). o ≡ None) (is_line_end c) _ _ l
     (else_in (λ (o : Option _). o ≡ None) (is_space c) _ _ s
-     (else_in (λ (o : Option _). o ≡ None) (c == 47) _ _ e refl))
+    (else_in (λ (o : Option _). o ≡ None) (c == 47) _ _ e refl))
 
 known : (c n : ℕ) (w : List ℕ) → c ≡ n → leading_trivium (n ∷ w) ≡ None → leading_trivium (c ∷ w) ≡ None
 known c n w e h = subst (λ (x : ℕ). leading_trivium (x ∷ w) ≡ None) (sym e) h
@@ -294,6 +294,7 @@ stands-longest g t u r s = by_found _ (finds g (u ++ r))
   where
     kind : OfKind g t u
     kind = token_kind g t u s.is
+
     by_longest : (found : Option Longest) (x : Longest) → found ≡ Some x → IsLongest g (u ++ r) x → Same g t u r found
     by_longest found x e l =
         let cut = longer_cut u r (l.first ∷ l.others) l.rest l.splits (l.most u r kind.kind refl kind.is) in
@@ -307,6 +308,7 @@ stands-longest g t u r s = by_found _ (finds g (u ++ r))
           gives = ap (λ (k : Kind). token_of k u) same_kind ∙ kind.gives;
           left = l.left ∙ ap length (sym same_rest);
         }
+
     by_found : (found : Option Longest) → Finds g (u ++ r) found → Same g t u r found
     by_found found (nothing e none) = absurd (none u r kind.kind refl kind.is)
     by_found found (longest x e l) = by_longest found x e l
@@ -346,7 +348,7 @@ token_at-some g w t n e = by_found (longest_token g w) (finds g w) e
         let back : last x.left w ≡ l.rest = last-is w (l.first ∷ l.others) l.rest x.left l.splits l.left in
         let tok : token_of x.kind (take (length w - x.left) w) ≡ token_of x.kind (l.first ∷ l.others) = ap (token_of x.kind) front in
         elim (split (λ (o : Option (Token × ℕ)). o ≡ Some (t, n)) (may_precede (token_of x.kind (take (length w - x.left) w)) (last x.left w)) _ _ f) [
-            inl (b, h) ↦
+          | inl (b, h) ↦
               let pair : Pair (token_of x.kind (take (length w - x.left) w)) x.left t n = pair_of _ _ h in
               let same_token = pair.token in let same_left = pair.left in
               let free : may_precede (token_of x.kind (l.first ∷ l.others)) l.rest ≡ true = ap (λ (y : Token). may_precede y l.rest) (sym tok) ∙ ap (may_precede (token_of x.kind (take (length w - x.left) w))) (sym back) ∙ b in
@@ -357,7 +359,9 @@ token_at-some g w t n e = by_found (longest_token g w) (finds g w) e
                 left = sym same_left ∙ l.left;
                 stands = subst (λ (y : Token). Stands g y (l.first ∷ l.others) l.rest) (sym tok ∙ same_token) (longest-stands g w x l free);
               }
-          | inr (_, h) ↦ absurd cc ]
+          | inr (_, h) ↦ absurd cc
+        ]
+
     by_found : (found : Option Longest) → Finds g w found → token_at_from w found ≡ Some (t, n) → StandsAt g w t n
     by_found found (nothing e none) f = let g : token_at_from w None ≡ Some (t, n) = subst (λ (o : Option Longest). token_at_from w o ≡ Some (t, n)) e f in absurd cc
     by_found found (longest x e l) f =
@@ -372,7 +376,7 @@ stands-token_at g t u r s =
     let free : may_precede (token_of l.one.kind (take (length (u ++ r) - l.one.left) (u ++ r))) (last l.one.left (u ++ r)) ≡ true = ap (λ (y : Token). may_precede y (last l.one.left (u ++ r))) tok ∙ ap (may_precede t) back ∙ s.free in
     ap (token_at_from (u ++ r)) l.is
     ∙ then_in (λ (o : Option (Token × ℕ)). o ≡ Some (t, length r)) (may_precede (token_of l.one.kind (take (length (u ++ r) - l.one.left) (u ++ r))) (last l.one.left (u ++ r))) _ _ free
-      (ap (λ (y : Token). Some (y, l.one.left)) tok ∙ ap (λ (n : ℕ). Some (t, n)) l.left)
+    (ap (λ (y : Token). Some (y, l.one.left)) tok ∙ ap (λ (n : ℕ). Some (t, n)) l.left)
 
 pub longest-left : (g : Goal) (w : List ℕ) (x : Longest) → longest_token g w ≡ Some x → x.left ≤ length w
 longest-left g w x e = by_found (longest_token g w) (finds g w) e

@@ -92,12 +92,13 @@ block_found star ended (c ∷ q) rest (inl (t, e)) = closes c q (is_same c 47 (r
     right : (a b : Bool) → (a && b) ≡ true → b ≡ true
     right true b x = x
     right false b x = absurd cc
+
     closes : (c : ℕ) (q : List ℕ) → c ≡ 47 → q ≡ [] → (star && (c == 47)) ≡ true → block_comment star ended (c ∷ (q ++ rest)) ≡ trivium_with (ended_in ended (c ∷ q)) rest
     closes c q is_slash is_end t =
         then_in (λ (o : Option Trivium). o ≡ trivium_with (ended_in ended (c ∷ q)) rest) (star && (c == 47)) _ _ t
         (subst (λ (x : List ℕ). trivium_with ended (x ++ rest) ≡ trivium_with (ended_in ended (c ∷ x)) rest) (sym is_end)
-         (subst (λ (x : ℕ). trivium_with ended rest ≡ trivium_with (ended_in ended (x ∷ [])) rest) (sym is_slash)
-          (ap (λ (b : Bool). trivium_with b rest) (sym (ended_in-slash ended)))))
+        (subst (λ (x : ℕ). trivium_with ended rest ≡ trivium_with (ended_in ended (x ∷ [])) rest) (sym is_slash)
+        (ap (λ (b : Bool). trivium_with b rest) (sym (ended_in-slash ended)))))
 block_found star ended (c ∷ q) rest (inr (t, h)) =
     else_in (λ (o : Option Trivium). o ≡ trivium_with (ended_in ended (c ∷ q)) rest) (star && (c == 47)) _ _ t
     (block_found (c == 42) (ended_by ended c) q rest h ∙ ap (λ (b : Bool). trivium_with b rest) (ended_in-more ended c q))
@@ -114,12 +115,14 @@ block_of : (star ended : Bool) (u : List ℕ) (t : Trivium) → block_comment st
 block_of star ended [] t e = absurd cc
 block_of star ended (c ∷ u) t e =
     elim (split (λ (o : Option Trivium). o ≡ Some t) (star && (c == 47)) _ _ e) [
-        inl (b, f) ↦ let same : record { ends_line = ended; left = length u } ≡ t = cc in closed b same
-      | inr (b, f) ↦ further b (block_of (c == 42) (ended_by ended c) u t f) ]
+      | inl (b, f) ↦ let same : record { ends_line = ended; left = length u } ≡ t = cc in closed b same
+      | inr (b, f) ↦ further b (block_of (c == 42) (ended_by ended c) u t f)
+    ]
   where
     right : (a b : Bool) → (a && b) ≡ true → b ≡ true
     right true b x = x
     right false b x = absurd cc
+
     closed : (star && (c == 47)) ≡ true → record { ends_line = ended; left = length u } ≡ t → Block star ended (c ∷ u) t
     closed b same = record {
       front = c ∷ [];
@@ -129,6 +132,7 @@ block_of star ended (c ∷ u) t e =
       ends = ap (λ (x : Trivium). x.ends_line) (sym same) ∙ sym (ended_in-slash ended) ∙ ap (λ (x : ℕ). ended_in ended (x ∷ [])) (sym (is_same c 47 (right star (c == 47) b)));
       left = ap (λ (x : Trivium). x.left) (sym same);
     }
+
     further : (star && (c == 47)) ≡ false → Block (c == 42) (ended_by ended c) u t → Block star ended (c ∷ u) t
     further b k = record {
       front = c ∷ k.front;
@@ -195,10 +199,12 @@ comment_is : (g : Goal) (c : ℕ) (u : List ℕ) (t : Trivium) → c ≡ 47 → 
 comment_is g c [] t e f = absurd cc
 comment_is g c (d ∷ u) t e f =
     elim (split (λ (o : Option Trivium). o ≡ Some t) (d == 47) _ _ f) [
-        inl (b, h) ↦ let same : record { ends_line = false; left = length (behind_line u) } ≡ t = cc in line_is g c d u t e (is_same d 47 b) same
+      | inl (b, h) ↦ let same : record { ends_line = false; left = length (behind_line u) } ≡ t = cc in line_is g c d u t e (is_same d 47 b) same
       | inr (_, h) ↦ elim (split (λ (o : Option Trivium). o ≡ Some t) (d == 42) _ _ h) [
-            inl (b, k) ↦ block_is g c d u t e (is_same d 42 b) (block_of false false u t k)
-          | inr (_, k) ↦ absurd cc ] ]
+        | inl (b, k) ↦ block_is g c d u t e (is_same d 42 b) (block_of false false u t k)
+        | inr (_, k) ↦ absurd cc
+      ]
+    ]
 
 blank_by : (a b : Bool) → a ≡ true → (a || b) ≡ true
 blank_by true b h = refl
@@ -212,11 +218,15 @@ pub trivium_is : (g : Goal) (w : List ℕ) (t : Trivium) → leading_trivium w �
 trivium_is g [] t e = absurd cc
 trivium_is g (c ∷ u) t e =
     elim (split (λ (o : Option Trivium). o ≡ Some t) (is_line_end c) _ _ e) [
-        inl (b, f) ↦ let same : record { ends_line = true; left = length u } ≡ t = cc in blank_is g c u true t (blank_by (is_line_end c) (is_space c) b) b same
+      | inl (b, f) ↦ let same : record { ends_line = true; left = length u } ≡ t = cc in blank_is g c u true t (blank_by (is_line_end c) (is_space c) b) b same
       | inr (l, f) ↦ elim (split (λ (o : Option Trivium). o ≡ Some t) (is_space c) _ _ f) [
-            inl (b, h) ↦ let same : record { ends_line = false; left = length u } ≡ t = cc in blank_is g c u false t (blank_or (is_line_end c) (is_space c) b) l same
-          | inr (_, h) ↦ elim (split (λ (o : Option Trivium). o ≡ Some t) (c == 47) _ _ h) [
-                inl (b, k) ↦ comment_is g c u t (is_same c 47 b) k | inr (_, k) ↦ absurd cc ] ] ]
+        | inl (b, h) ↦ let same : record { ends_line = false; left = length u } ≡ t = cc in blank_is g c u false t (blank_or (is_line_end c) (is_space c) b) l same
+        | inr (_, h) ↦ elim (split (λ (o : Option Trivium). o ≡ Some t) (c == 47) _ _ h) [
+          | inl (b, k) ↦ comment_is g c u t (is_same c 47 b) k
+          | inr (_, k) ↦ absurd cc
+        ]
+      ]
+    ]
 
 -- each item is found
 
@@ -231,7 +241,7 @@ slash_first : (c d : ℕ) (u : List ℕ) → c ≡ 47 → leading_trivium (c ∷
 slash_first c d u e =
     else_in (λ (o : Option Trivium). o ≡ comment (d ∷ u)) (is_line_end c) _ _ (ap is_line_end e ∙ ap is_line_end_class slash)
     (else_in (λ (o : Option Trivium). o ≡ comment (d ∷ u)) (is_space c) _ _ (ap is_space e ∙ ap is_space_class slash)
-     (then_in (λ (o : Option Trivium). o ≡ comment (d ∷ u)) (c == 47) _ _ (ap (λ (x : ℕ). x == 47) e) refl))
+    (then_in (λ (o : Option Trivium). o ≡ comment (d ∷ u)) (c == 47) _ _ (ap (λ (x : ℕ). x == 47) e) refl))
 
 pub item_found : (item : Item) (rest : List Mark) (end : Goal) → has_token (item ∷ []) ≡ false → Fit (item ∷ []) rest end → leading_trivium (chars (text (item ∷ []) rest)) ≡ trivium_with (item_ends item) (chars rest)
 item_found (blank m) rest end o (h, _) = by_test (is_line_end m.character) (is_space m.character) h
@@ -243,11 +253,11 @@ item_found (blank m) rest end o (h, _) = by_test (is_line_end m.character) (is_s
 item_found (line a b q) rest end o ((e, f, h), k, _) =
     slash_first a.character b.character (chars (q ++ rest)) e
     ∙ then_in (λ (o : Option Trivium). o ≡ trivium_with false (chars rest)) (b.character == 47) _ _ (ap (λ (x : ℕ). x == 47) f)
-      (ap (trivium_with false) (ap behind_line (chars-append q rest) ∙ line_found (chars q) (chars rest) h k))
+    (ap (trivium_with false) (ap behind_line (chars-append q rest) ∙ line_found (chars q) (chars rest) h k))
 item_found (block a b q) rest end o ((e, f, h), _) =
     slash_first a.character b.character (chars (q ++ rest)) e
     ∙ subst (λ (x : ℕ). comment (x ∷ chars (q ++ rest)) ≡ trivium_with (item_ends (block a b q)) (chars rest)) (sym f)
-      (ap (block_comment false false) (chars-append q rest) ∙ block_found false false (chars q) (chars rest) h)
+    (ap (block_comment false false) (chars-append q rest) ∙ block_found false false (chars q) (chars rest) h)
 item_found (token t a q) rest end o h = absurd cc
 
 pub item_flag : (item : Item) (items : List Item) (ended : Bool) → has_token (item ∷ []) ≡ false → ended_behind ended (item ∷ items) ≡ ended_behind (if item_ends item then true else ended) items

@@ -82,7 +82,7 @@ IsBehindZero [] = Unit {0}
 IsBehindZero (c ∷ u) =
     ((is_octal c ≡ true) × AreOctalDigits u)
     ⊎ (((c ≡ 46) × IsBehindPoint u)
-       ⊎ (((is_exponent_mark c ≡ true) × IsSignedInteger u) ⊎ ((is_hex_mark c ≡ true) × AreSomeHexDigits u)))
+    ⊎ (((is_exponent_mark c ≡ true) × IsSignedInteger u) ⊎ ((is_hex_mark c ≡ true) × AreSomeHexDigits u)))
 
 -- NumericLiteral
 abbrev pub IsNumber : List ℕ → Type 0

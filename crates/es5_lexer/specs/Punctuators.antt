@@ -56,7 +56,6 @@ spelling XorAssign = codes "^="
 spelling Slash = codes "/"
 spelling SlashAssign = codes "/="
 
-
 -- it may stand under the goal: DivPunctuator (7.7), `/` and `/=`, under division alone
 abbrev pub is_under : Goal → Punct → Bool
 is_under Div p = true

@@ -42,7 +42,7 @@ abbrev mutual
   IsBehindEscape q (c ∷ u) =
       ((c ≡ 120) × IsHex2Then q u)
       ⊎ (((c ≡ 117) × IsHex4Then q u)
-         ⊎ (((c ≡ 13) × (IsStringRest q u ⊎ IsLfThen q u)) ⊎ ((is_single_escape c ≡ true) × IsStringRest q u)))
+      ⊎ (((c ≡ 13) × (IsStringRest q u ⊎ IsLfThen q u)) ⊎ ((is_single_escape c ≡ true) × IsStringRest q u)))
 
   -- the LF of a CR LF, and the rest
   pub IsLfThen : Quote → List ℕ → Type 0

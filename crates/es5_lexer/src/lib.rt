@@ -8,6 +8,8 @@ mod marks;
 mod names;
 mod next;
 mod places;
+#[cfg(test)]
+mod tests;
 mod tokens;
 mod trivia;
 

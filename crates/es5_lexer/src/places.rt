@@ -13,7 +13,10 @@ ghost use Rattle.es5_lexer.specs.Places.{next_in_number, next_in_whole, next_in_
 ghost use Rattle.es5_lexer.specs.Places.{next_in_text, next_in_chars, behind_text_escape, fewer};
 ghost use Rattle.es5_lexer.specs.Places.{next_in_pattern, next_in_body, next_in_class};
 
-use crate::characters::{escaped_is_part, escaped_is_start, is_digit, is_hex, is_line_end, is_nonzero, is_octal, is_part, is_start};
+use crate::characters::{
+    escaped_is_part, escaped_is_start, is_digit, is_hex, is_line_end, is_nonzero, is_octal,
+    is_part, is_start,
+};
 use crate::marks::{longer, mark};
 use crate::tokens::{Goal, Punct};
 
@@ -201,9 +204,7 @@ impl Place {
         match self {
             Place::Name => Some(Kind::Name),
             Place::Mark(p) => Some(Kind::Punct(p)),
-            Place::Number(
-                NumberPlace::Exponent | NumberPlace::Sign | NumberPlace::HexMark,
-            ) => None,
+            Place::Number(NumberPlace::Exponent | NumberPlace::Sign | NumberPlace::HexMark) => None,
             Place::Number(_) => Some(Kind::Number),
             Place::Text(_, TextPlace::End) => Some(Kind::Text),
             Place::Pattern(PatternPlace::Flags) => Some(Kind::Pattern),

@@ -21,6 +21,7 @@ pub trivia-preserved : goal.trivia-preserved
 trivia-preserved c =
     passes_next c.args.text.now c.trivia.newline c.trivia.rest.now c.in-Some.trivium c.if-trivium.newline c.last-rest.result.now c.trivia.invariant (sym c.in-Some.ensures.value)
     (elim c.if-trivium.branch [
-        then-trivium w ↦ w.newline-is ∙ sym (if_true c.in-Some.trivium.ends_line c.trivia.newline w.if-trivium.true)
-      | else-trivium w ↦ w.newline-is ∙ sym (if_false c.in-Some.trivium.ends_line c.trivia.newline w.if-trivium.false) ])
+      | then-trivium w ↦ w.newline-is ∙ sym (if_true c.in-Some.trivium.ends_line c.trivia.newline w.if-trivium.true)
+      | else-trivium w ↦ w.newline-is ∙ sym (if_false c.in-Some.trivium.ends_line c.trivia.newline w.if-trivium.false)
+    ])
     c.last-rest.ensures
