@@ -5,7 +5,29 @@ use std::alloc::{AllocError, Global};
 use std::test::Fail;
 
 /// Texts whose slashes are divisions.
-const DIVIDING: [(&str, &[Token]); 114] = [
+const DIVIDING: [(&str, &[Token]); 117] = [
+    (
+        "{ 1 2 } 3",
+        &[
+            Punct(P::LeftBrace),
+            Number,
+            Number,
+            Punct(P::RightBrace),
+            Number,
+        ],
+    ),
+    (
+        "a\n/b/.c",
+        &[
+            Ident,
+            Punct(P::Slash),
+            Ident,
+            Punct(P::Slash),
+            Punct(P::Dot),
+            Ident,
+        ],
+    ),
+    ("let x = 1", &[Ident, Ident, Punct(P::Assign), Number]),
     ("", &[]),
     (
         "a/b/c",
