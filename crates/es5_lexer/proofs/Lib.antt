@@ -11,3 +11,4 @@ pub mod TokenLemmas
 pub mod PassLemmas
 pub mod NextLemmas
 pub mod LawLemmas
+pub mod EitherLemmas

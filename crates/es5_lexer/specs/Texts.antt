@@ -91,6 +91,33 @@ pub record LexesFrom (ended : Bool) (w : List Mark) (end : Goal) (tokens : List 
 abbrev pub Lexes : List Mark → Goal → List Lexeme → Type 0
 Lexes w end tokens = LexesFrom false w end tokens
 
+-- each item is what it says, a slash read in either way
+abbrev pub FitEither : List Item → List Mark → Type 0
+FitEither [] rest = Unit {0}
+FitEither (blank m ∷ items) rest = (is_blank m.character ≡ true) × FitEither items rest
+FitEither (line a b q ∷ items) rest =
+    ((a.character ≡ 47) × (b.character ≡ 47) × (is_line_comment (chars q) ≡ true))
+    × EndsLine (chars (text items rest))
+    × FitEither items rest
+FitEither (block a b q ∷ items) rest =
+    ((a.character ≡ 47) × (b.character ≡ 42) × IsBlockComment (chars q)) × FitEither items rest
+FitEither (token t a q ∷ items) rest =
+    ((g : Goal) × Stands g t (a.character ∷ chars q) (chars (text items rest))) × FitEither items rest
+
+-- the characters have these tokens, each slash read in either way
+pub record LexesEither (u : List ℕ) (tokens : List Lexeme) : Type 0 where
+  pub items : List Item
+  pub spells : u ≡ chars (text items [])
+  pub fits : FitEither items []
+  pub gives : tokens ≡ lexemes false items
+
+-- the characters have these tokens under some goals
+pub record HasReading (u : List ℕ) (tokens : List Lexeme) : Type 0 where
+  pub read : List Mark
+  pub end : Goal
+  pub spells : chars read ≡ u
+  pub lexes : Lexes read end tokens
+
 -- a token is among the items
 abbrev pub has_token : List Item → Bool
 has_token [] = false

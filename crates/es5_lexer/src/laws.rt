@@ -1,6 +1,6 @@
 //! Laws of the definitions.
-ghost use Rattle.std.specs.Prelude.{◌≡◌, ℕ, List};
-ghost use Rattle.es5_lexer.specs.Texts.{Mark, Lexes, IsNextToken};
+ghost use Rattle.std.specs.Prelude.{◌≡◌, ℕ, List, ◌↔◌};
+ghost use Rattle.es5_lexer.specs.Texts.{Mark, Lexes, LexesEither, HasReading, IsNextToken};
 ghost use Rattle.es5_lexer.specs.declared.tokens.Goal.{Goal};
 ghost use Rattle.es5_lexer.specs.declared.tokens.Lexeme.{Lexeme};
 
@@ -13,4 +13,9 @@ pub fn one_list_of_tokens()
 pub fn one_next_token()
     ensures token { (g : Goal) (u : List ℕ) (x y : Lexeme) (v w : List ℕ) → IsNextToken g u x v → IsNextToken g u y w → x ≡ y }
     ensures rest { (g : Goal) (u : List ℕ) (x y : Lexeme) (v w : List ℕ) → IsNextToken g u x v → IsNextToken g u y w → v ≡ w }
+{}
+
+/// A text with these tokens, each slash read in either way, is one with these tokens under some goals.
+pub fn either_reading()
+    ensures { (u : List ℕ) (tokens : List Lexeme) → LexesEither u tokens ↔ HasReading u tokens }
 {}

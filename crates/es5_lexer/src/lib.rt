@@ -18,6 +18,6 @@ mod tests;
 mod tokens;
 mod trivia;
 
-pub use laws::{one_list_of_tokens, one_next_token};
+pub use laws::{either_reading, one_list_of_tokens, one_next_token};
 pub use next::{next_token, rest_is_trivia};
 pub use tokens::{Goal, Lexeme, Punct, Token, Word};
