@@ -1,2 +1,4 @@
 pub mod Examples
 pub mod ChainLemmas
+pub mod OperandLemmas
+pub mod NoPrograms

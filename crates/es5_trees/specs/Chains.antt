@@ -16,21 +16,23 @@ tail_text nothing rest = rest
 tail_text (further x u tail) rest = x ∷ unary_text u (tail_text tail rest)
 
 -- binary operators, `in` only where it may stand, and good operands
-abbrev pub GoodTail : Bool → Tail → Type 0
-GoodTail with_in nothing = Unit {0}
-GoodTail with_in (further x u tail) =
-    ((1 ≤ level x.token) × (may_stand with_in x.token ≡ true)) × GoodUnary u × GoodTail with_in tail
+abbrev pub GoodTail : Bool → Tail → List Lexeme → Type 0
+GoodTail with_in nothing rest = Unit {0}
+GoodTail with_in (further x u tail) rest =
+    ((1 ≤ level x.token) × (may_stand with_in x.token ≡ true))
+    × GoodUnary u (tail_text tail rest)
+    × GoodTail with_in tail rest
 
 -- the tokens are those of a tree with its operators at their levels, and the rest
 pub record SpellsLevels (with_in : Bool) (tokens rest : List Lexeme) : Type 0 where
   pub tree : Binary
-  pub good : GoodBinary with_in 1 tree
+  pub good : GoodBinary with_in 1 tree rest
   pub spells : tokens ≡ binary_text tree rest
 
 -- the tokens are those of a flat chain, and the rest
 pub record SpellsChain (with_in : Bool) (tokens rest : List Lexeme) : Type 0 where
   pub first : Unary
   pub tail : Tail
-  pub good_first : GoodUnary first
-  pub good_tail : GoodTail with_in tail
+  pub good_first : GoodUnary first (tail_text tail rest)
+  pub good_tail : GoodTail with_in tail rest
   pub spells : tokens ≡ unary_text first (tail_text tail rest)

@@ -143,12 +143,12 @@ is_jump_word Continue = true
 is_jump_word Break = true
 is_jump_word _ = false
 
--- a text of tokens begins on the line of the token before it: [no LineTerminator here]
+-- the tokens begin on the line of the token before them: [no LineTerminator here]
 abbrev pub is_on_line : List Lexeme → Bool
 is_on_line [] = true
 is_on_line (x ∷ rest) = not x.newline
 
--- the tokens that no ExpressionStatement begins with (12.4)
+-- the tokens that no ExpressionStatement begins with: [lookahead] of 12.4
 abbrev pub begins_other : Token → Bool
 begins_other (APunct LeftBrace) = true
 begins_other (AWord Function) = true
