@@ -1,5 +1,5 @@
 -- The classes of the characters that the grammar names, by the data of Unicode.
-use Rattle.std.proofs.Common.{◌≡◌, ℕ, zero, suc, ◌+◌, ◌-◌, ◌<◌, ◌≤◌, Bool, true, false, ◌||◌, ◌==◌, refl, ap, subst, sym, ◌∙◌, arith}
+use Rattle.std.proofs.Common.{◌≡◌, ℕ, zero, suc, ◌+◌, ◌-◌, ◌<◌, true, false, ◌||◌, refl, subst, arith}
 use Rattle.std.proofs.lemmas.Bool.Decides.{nat_tests}
 use Rattle.ucd_category.specs.GeneralCategory.{general_category}
 use Rattle.ucd_category.specs.GeneralCategoryRows.{general_category_rows}
@@ -7,7 +7,7 @@ use Rattle.ucd_table.specs.Rows.{value_in}
 use Rattle.text_stream.specs.Classes.{class_of}
 use Rattle.text_stream.specs.declared.classes.CharClass.{CharClass}
 use Rattle.text_stream.specs.declared.classes.CharClass.TheVariants.{LineEnd, Space, NameStart, NamePart, Other}
-use Rattle.es5_lexer.specs.Characters.{is_line_end, is_space, is_start, is_part, is_digit, is_start_class, is_part_class, is_line_end_class, is_space_class}
+use Rattle.es5_lexer.specs.Characters.{is_start, is_digit, is_start_class, is_line_end_class, is_space_class}
 use Rattle.es5_lexer.specs.Trivia.{is_blank}
 
 pub backslash : class_of 92 ≡ Other

@@ -1,8 +1,8 @@
 -- A text with either reading at each slash is a text under some goals.
-use Rattle.std.proofs.Common.{◌≡◌, ℕ, Bool, false, List, [], ◌∷◌, ◌++◌, refl, sym, ap, subst, ◌∙◌, ◌↔◌}
+use Rattle.std.proofs.Common.{◌≡◌, ℕ, Bool, false, List, [], ◌∷◌, ◌++◌, refl, sym, ap, subst, ◌∙◌}
 use Rattle.es5_lexer.specs.Trivia.{EndsLine}
 use Rattle.es5_lexer.specs.Tokens.{Stands}
-use Rattle.es5_lexer.specs.Texts.{Mark, mark, chars, asked, Item, blank, line, block, token, text, Fit, ended_by, ended_in, lexemes, LexesFrom, Lexes, FitEither, LexesEither, HasReading}
+use Rattle.es5_lexer.specs.Texts.{Mark, mark, chars, asked, Item, blank, line, block, token, text, Fit, ended_by, ended_in, lexemes, FitEither, LexesEither, HasReading}
 use Rattle.es5_lexer.specs.declared.tokens.Goal.{Goal}
 use Rattle.es5_lexer.specs.declared.tokens.Goal.TheVariants.{Div}
 use Rattle.es5_lexer.specs.declared.tokens.Token.{Token}

@@ -1,6 +1,6 @@
 -- What a character that is written by an escape says of the four digits.
-use Rattle.std.proofs.Common.{◌≡◌, ℕ, Bool, true, false, ◌&&◌, ◌||◌, not, nat_lt, if◌then◌else◌, Option, Some, None, refl}
-use Rattle.es5_lexer.specs.Characters.{is_hex, is_character, code_of, char_of, escaped, is_escape_of}
+use Rattle.std.proofs.Common.{◌≡◌, ℕ, Bool, true, false, ◌&&◌, ◌||◌, not, nat_lt, if◌then◌else◌, Some, None, refl}
+use Rattle.es5_lexer.specs.Characters.{is_hex, code_of, escaped, is_escape_of}
 
 -- the tests one by one
 gives : (set : ℕ → Bool) (hex low high : Bool) (m n : ℕ) → (if hex then (if low then Some m else if high then None else Some m) else None) ≡ Some n → set n ≡ (hex && ((low || not high) && set m))

@@ -1,5 +1,5 @@
 -- The first character of a token: what may come behind it, and back.
-use Rattle.std.proofs.Common.{◌≡◌, ℕ, Bool, true, false, ◌&&◌, ◌||◌, not, ◌==◌, if◌then◌else◌, Option, Some, None, List, [], ◌∷◌, ◌++◌, ◌⊎◌, inl, inr, refl, sym, ap, subst, ◌∙◌, append_assoc, arith}
+use Rattle.std.proofs.Common.{◌≡◌, ℕ, true, false, ◌==◌, if◌then◌else◌, Option, Some, None, List, [], ◌∷◌, ◌++◌, inl, inr, refl, sym, ap, subst, ◌∙◌, append_assoc, arith}
 use Rattle.std.proofs.lemmas.Bool.Decides.{nat_tests}
 use Rattle.ucd_category.specs.GeneralCategory.{general_category}
 use Rattle.ucd_category.specs.GeneralCategoryRows.{general_category_rows}
@@ -17,8 +17,7 @@ use Rattle.es5_lexer.specs.declared.tokens.Punct.TheVariants.{LeftBrace, RightBr
 use Rattle.es5_lexer.specs.declared.places.Kind.{Kind}
 use Rattle.es5_lexer.specs.declared.places.Kind.TheVariants.{Name as AName, Punct as APunct, Number as ANumber, Text as AText, Pattern as APattern}
 use Rattle.es5_lexer.specs.declared.places.Place.{Place}
-use Rattle.es5_lexer.specs.declared.places.Place.TheVariants.{Name, Escape, Mark, Number, Text, Pattern, Dead}
-use Rattle.es5_lexer.proofs.Choices.{split, then_in, else_in, is_same, test_same, never}
+use Rattle.es5_lexer.proofs.Choices.{split, then_in, else_in, is_same}
 use Rattle.es5_lexer.proofs.ClassLemmas.{backslash, slash, double_quote, single_quote, point, digit}
 
 abbrev At : Kind → List ℕ → Place → Type 0

@@ -1,14 +1,13 @@
 -- One list of tokens under given goals.
-use Rattle.std.proofs.Common.{◌≡◌, ℕ, suc, ◌-◌, ◌≤◌, Bool, true, false, if◌then◌else◌, Option, Some, None, List, [], ◌∷◌, ◌++◌, length, drop, length-append, refl, sym, ap, subst, ◌∙◌, arith}
-use Rattle.es5_lexer.specs.Tokens.{Stands}
-use Rattle.es5_lexer.specs.Texts.{Mark, chars, asked, Item, blank, line, block, token, text, Fit, has_token, ended_behind, lexemes, LexesFrom, Lexes, IsNextToken}
+use Rattle.std.proofs.Common.{◌≡◌, ℕ, Bool, true, false, if◌then◌else◌, Some, None, List, [], ◌∷◌, ◌++◌, length, length-append, refl, sym, ap, subst, ◌∙◌, arith}
+use Rattle.es5_lexer.specs.Texts.{Mark, chars, asked, Item, blank, line, block, token, text, Fit, has_token, lexemes, Lexes, IsNextToken}
 use Rattle.es5_lexer.specs.Reading.{leading_trivium, trivium_with, token_at}
 use Rattle.es5_lexer.specs.declared.tokens.Goal.{Goal}
 use Rattle.es5_lexer.specs.declared.tokens.Token.{Token}
 use Rattle.es5_lexer.specs.declared.tokens.Lexeme.{Lexeme}
 use Rattle.es5_lexer.specs.declared.trivia.Trivium.{Trivium}
 use Rattle.es5_lexer.proofs.TriviaLemmas.{chars-append, item_ends, item_found, item_lexemes}
-use Rattle.es5_lexer.proofs.TokenLemmas.{stands-token_at, stands-no_trivium, Pair, pair_of}
+use Rattle.es5_lexer.proofs.TokenLemmas.{stands-token_at, stands-no_trivium, pair_of}
 use Rattle.es5_lexer.proofs.PassLemmas.{fits_first, one_pass}
 use Rattle.es5_lexer.proofs.NextLemmas.{next_passes}
 

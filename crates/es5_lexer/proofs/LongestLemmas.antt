@@ -1,6 +1,6 @@
 -- The longest token that a walk along a text finds is the longest, and there is none where it finds
 -- none.
-use Rattle.std.proofs.Common.{◌≡◌, ℕ, zero, suc, ◌≤◌, Bool, true, false, Option, Some, None, List, [], ◌∷◌, ◌++◌, length, ◌⊎◌, inl, inr, refl, sym, ap, subst, ◌∙◌, arith}
+use Rattle.std.proofs.Common.{◌≡◌, ℕ, suc, ◌≤◌, true, Option, Some, None, List, [], ◌∷◌, ◌++◌, length, refl, sym, ap, subst, ◌∙◌, arith}
 use Rattle.es5_lexer.specs.Places.{first, next, ended, is_dead}
 use Rattle.es5_lexer.specs.Reading.{better, longest_from, longest_token}
 use Rattle.es5_lexer.specs.Rests.{IsKind, Rest}

@@ -1,14 +1,14 @@
 -- The next token, from the walk over trivia and what stands behind it.
-use Rattle.std.proofs.Common.{◌≡◌, ℕ, suc, ◌-◌, ◌≤◌, Bool, true, false, Option, Some, None, List, [], ◌∷◌, ◌++◌, length, take, drop, refl, sym, ap, subst, ◌∙◌, append_assoc, length-append, arith}
+use Rattle.std.proofs.Common.{◌≡◌, ℕ, ◌-◌, ◌≤◌, Bool, false, Some, None, List, [], ◌∷◌, ◌++◌, length, take, drop, refl, sym, ap, subst, ◌∙◌, append_assoc, length-append, arith}
 use Rattle.std.proofs.lemmas.List.{take-append-drop}
-use Rattle.es5_lexer.specs.Texts.{Mark, chars, read_by, Item, blank, line, block, token, text, Fit, has_token, ended_by, ended_in, ended_behind, lexemes, LexesFrom, Lexes, IsNextToken}
-use Rattle.es5_lexer.specs.Reading.{last, leading_trivium, Passes, none, one, token_at}
+use Rattle.es5_lexer.specs.Texts.{chars, read_by, Item, blank, line, block, token, text, Fit, has_token, ended_by, ended_in, ended_behind, lexemes, Lexes, IsNextToken}
+use Rattle.es5_lexer.specs.Reading.{last, leading_trivium, Passes, token_at}
 use Rattle.es5_lexer.specs.declared.tokens.Goal.{Goal}
 use Rattle.es5_lexer.specs.declared.tokens.Token.{Token}
 use Rattle.es5_lexer.specs.declared.tokens.Lexeme.{Lexeme}
 use Rattle.es5_lexer.proofs.ListLemmas.{last-is}
 use Rattle.es5_lexer.proofs.TriviaLemmas.{chars-read_by}
-use Rattle.es5_lexer.proofs.TokenLemmas.{StandsAt, token_at-some, stands-token_at, stands-no_trivium}
+use Rattle.es5_lexer.proofs.TokenLemmas.{token_at-some, stands-token_at, stands-no_trivium}
 use Rattle.es5_lexer.proofs.PassLemmas.{passes_part, passes_items, items_pass, one_pass}
 
 -- the token found, and where it ends in the text

@@ -1,16 +1,12 @@
 -- A walk over trivia: each item is passed, and what is passed are items.
-use Rattle.std.proofs.Common.{◌≡◌, ℕ, ◌-◌, ◌<◌, ◌≤◌, Bool, true, false, ◌||◌, if◌then◌else◌, Option, Some, None, List, [], ◌∷◌, ◌++◌, length, drop, refl, sym, ap, subst, ◌∙◌, append_assoc, length-append, arith}
-use Rattle.es5_lexer.specs.Texts.{Mark, chars, read_by, Item, blank, line, block, token, text, Fit, has_token, ended_behind, lexemes, LexesFrom, Lexes, IsNextToken}
-use Rattle.es5_lexer.specs.Tokens.{Stands}
-use Rattle.es5_lexer.specs.Reading.{last, leading_trivium, trivium_with, Passes, none, one, token_at}
+use Rattle.std.proofs.Common.{◌≡◌, ℕ, ◌<◌, Bool, true, false, if◌then◌else◌, Some, None, List, [], ◌∷◌, ◌++◌, length, refl, sym, ap, subst, ◌∙◌, append_assoc, length-append, arith}
+use Rattle.es5_lexer.specs.Texts.{Mark, chars, read_by, Item, blank, line, block, token, text, Fit, has_token, ended_behind}
+use Rattle.es5_lexer.specs.Reading.{last, leading_trivium, Passes, none, one}
 use Rattle.es5_lexer.specs.declared.tokens.Goal.{Goal}
 use Rattle.es5_lexer.specs.declared.tokens.Goal.TheVariants.{Div}
-use Rattle.es5_lexer.specs.declared.tokens.Token.{Token}
-use Rattle.es5_lexer.specs.declared.tokens.Lexeme.{Lexeme}
 use Rattle.es5_lexer.specs.declared.trivia.Trivium.{Trivium}
 use Rattle.es5_lexer.proofs.ListLemmas.{last-is}
-use Rattle.es5_lexer.proofs.TriviaLemmas.{chars-read_by, chars-append as chars_both, IsTrivium, trivium_is, item_ends, item_found, item_flag}
-use Rattle.es5_lexer.proofs.TokenLemmas.{StandsAt, token_at-some, stands-token_at, stands-no_trivium}
+use Rattle.es5_lexer.proofs.TriviaLemmas.{chars-append as chars_both, trivium_is, item_ends, item_found, item_flag}
 
 pub start : (u : List ℕ) → Passes false u false u
 start u = none false u

@@ -1,18 +1,17 @@
 -- A character in front of what may come at a place is a step to the place behind it, and back.
 use Rattle.std.proofs.Common.{◌≡◌, ℕ, Bool, true, false, ◌&&◌, ◌||◌, not, ◌==◌, if◌then◌else◌, Option, Some, None, List, [], ◌∷◌, ◌⊎◌, inl, inr, refl, sym, ap, subst, ◌∙◌, arith}
 use Rattle.std.proofs.lemmas.Bool.Decides.{nat_tests}
-use Rattle.text_stream.specs.Classes.{class_of}
-use Rattle.es5_lexer.specs.Characters.{is_start, is_part, is_line_end, is_digit, is_hex, is_octal, is_escape_of, is_character, code_of, is_part_class, is_line_end_class}
-use Rattle.es5_lexer.specs.Names.{AreParts, AreEscaped, IsName}
-use Rattle.es5_lexer.specs.Numbers.{is_nonzero, is_exponent_mark, is_hex_mark, is_sign, IsBehindZero, IsBehindDigit, IsBehindPoint}
-use Rattle.es5_lexer.specs.Strings.{quote_of, is_plain, is_single_escape, IsStringRest, IsBehindEscape}
-use Rattle.es5_lexer.specs.Patterns.{is_body_char, is_first_char, is_class_char, IsBody, IsBodyRest, IsClassRest}
-use Rattle.es5_lexer.specs.Places.{set_of, behind, is_dot, longer, by_equals, next, next_by, next_in_parts, next_in_escape, next_in_number, next_in_whole, next_in_exponent, next_in_chars, behind_text_escape, next_in_text, next_in_body, next_in_class, next_in_pattern, ended}
-use Rattle.es5_lexer.specs.Rests.{kind_in, LetterRest, OneRest, TwoRest, ThreeRest, EscapeRest, MarkRest, NumberRest, HexRest, TextRest, PatternRest, Rest}
+use Rattle.es5_lexer.specs.Characters.{is_part, is_line_end, is_digit, is_hex, is_octal, is_escape_of, is_part_class, is_line_end_class}
+use Rattle.es5_lexer.specs.Names.{AreParts, AreEscaped}
+use Rattle.es5_lexer.specs.Numbers.{is_exponent_mark, is_hex_mark, is_sign}
+use Rattle.es5_lexer.specs.Strings.{quote_of, IsStringRest, IsBehindEscape}
+use Rattle.es5_lexer.specs.Patterns.{IsBody, IsBodyRest, IsClassRest}
+use Rattle.es5_lexer.specs.Places.{set_of, behind, is_dot, longer, next, next_by, next_in_parts, next_in_escape, next_in_number, next_in_exponent, next_in_chars, behind_text_escape, next_in_text, next_in_body, next_in_pattern, ended}
+use Rattle.es5_lexer.specs.Rests.{kind_in, LetterRest, OneRest, TwoRest, ThreeRest, EscapeRest, MarkRest, NumberRest, TextRest, PatternRest, Rest}
 use Rattle.es5_lexer.specs.declared.tokens.Punct.{Punct}
 use Rattle.es5_lexer.specs.declared.tokens.Punct.TheVariants.{Dot}
 use Rattle.es5_lexer.specs.declared.places.Kind.{Kind}
-use Rattle.es5_lexer.specs.declared.places.Kind.TheVariants.{Name as AName, Punct as APunct, Number as ANumber, Text as AText, Pattern as APattern}
+use Rattle.es5_lexer.specs.declared.places.Kind.TheVariants.{Number as ANumber, Text as AText, Pattern as APattern}
 use Rattle.es5_lexer.specs.declared.places.Place.{Place}
 use Rattle.es5_lexer.specs.declared.places.Place.TheVariants.{Name, Escape, Mark, Number, Text, Pattern, Dead}
 use Rattle.es5_lexer.specs.declared.places.Host.{Host}
@@ -25,11 +24,10 @@ use Rattle.es5_lexer.specs.declared.places.Quote.{Quote}
 use Rattle.es5_lexer.specs.declared.places.Quote.TheVariants.{Double, Single}
 use Rattle.es5_lexer.specs.declared.places.TextPlace.{TextPlace}
 use Rattle.es5_lexer.specs.declared.places.TextPlace.TheVariants.{Chars, TextEscape, Cr, Hex, End}
-use Rattle.es5_lexer.specs.declared.places.Left.{Left}
 use Rattle.es5_lexer.specs.declared.places.Left.TheVariants.{One, Two, Three, Four}
 use Rattle.es5_lexer.specs.declared.places.PatternPlace.{PatternPlace}
 use Rattle.es5_lexer.specs.declared.places.PatternPlace.TheVariants.{BodyStart, Body, BodyEscape, Class, ClassEscape, Flags}
-use Rattle.es5_lexer.proofs.Choices.{split, then_in, else_in, is_same, test_same, or_cases, not_or, not_true, true_not, or_not, and_left, and_right, and_both, never}
+use Rattle.es5_lexer.proofs.Choices.{split, then_in, else_in, is_same, test_same, or_cases, not_or, not_true, true_not, or_not, and_left, and_right, never}
 use Rattle.es5_lexer.proofs.ClassLemmas.{backslash, line_feed}
 
 -- what may come, as a family of places

@@ -1,18 +1,17 @@
 -- Where a token stands no trivia do, and the walk along the text finds it.
-use Rattle.std.proofs.Common.{◌≡◌, ℕ, zero, suc, ◌+◌, ◌-◌, ◌<◌, ◌≤◌, Bool, true, false, ◌&&◌, ◌||◌, not, ◌==◌, if◌then◌else◌, Option, Some, None, List, [], ◌∷◌, ◌++◌, length, take, drop, bytes_eq, codes, ◌⊎◌, inl, inr, refl, sym, ap, subst, ◌∙◌, append_assoc, length-append, arith}
+use Rattle.std.proofs.Common.{◌≡◌, ℕ, ◌-◌, ◌≤◌, Bool, true, false, ◌||◌, ◌==◌, if◌then◌else◌, Option, Some, None, List, [], ◌∷◌, ◌++◌, length, take, bytes_eq, codes, inl, inr, refl, sym, ap, subst, ◌∙◌, append_assoc, length-append, arith}
 use Rattle.std.proofs.lemmas.Bool.Decides.{nat_tests}
 use Rattle.ucd_category.specs.GeneralCategory.{general_category}
 use Rattle.ucd_category.specs.GeneralCategoryRows.{general_category_rows}
 use Rattle.ucd_table.specs.Rows.{value_in}
 use Rattle.text_stream.specs.Classes.{class_of}
 use Rattle.es5_lexer.specs.Characters.{is_line_end, is_space, is_start, is_digit, is_line_end_class, is_space_class, is_start_class}
-use Rattle.es5_lexer.specs.Trivia.{is_blank}
-use Rattle.es5_lexer.specs.Names.{IsName, spelled, is_escaped, word_of, ident_of, token_by, name_token}
+use Rattle.es5_lexer.specs.Names.{IsName, spelled, is_escaped, word_of, token_by, name_token}
 use Rattle.es5_lexer.specs.Punctuators.{spelling}
 use Rattle.es5_lexer.specs.Numbers.{is_nonzero}
 use Rattle.es5_lexer.specs.Patterns.{IsBody}
-use Rattle.es5_lexer.specs.Tokens.{IsToken, is_barred, may_precede, Stands}
-use Rattle.es5_lexer.specs.Places.{next, ended}
+use Rattle.es5_lexer.specs.Tokens.{IsToken, may_precede, Stands}
+use Rattle.es5_lexer.specs.Places.{next}
 use Rattle.es5_lexer.specs.Rests.{IsKind, Rest}
 use Rattle.es5_lexer.specs.Reading.{last, comment, leading_trivium, longest_token, token_of, standing, token_at_from, token_at}
 use Rattle.es5_lexer.specs.declared.tokens.Goal.{Goal}
@@ -30,7 +29,7 @@ use Rattle.es5_lexer.proofs.Choices.{split, then_in, else_in, is_same, not_or, n
 use Rattle.es5_lexer.proofs.ClassLemmas.{slash, digit, start-no_blank}
 use Rattle.es5_lexer.proofs.PlaceLemmas.{goes, ends_here}
 use Rattle.es5_lexer.proofs.FirstLemmas.{first_goes, empty_no_kind}
-use Rattle.es5_lexer.proofs.LongestLemmas.{NoToken, IsLongest, Finds, nothing, longest, finds}
+use Rattle.es5_lexer.proofs.LongestLemmas.{IsLongest, Finds, nothing, longest, finds}
 use Rattle.es5_lexer.proofs.ListLemmas.{last-is, front-is}
 
 -- tokens and kinds

@@ -1,16 +1,14 @@
 -- Trivia at the front of a text: what is found is an item, and each item is found.
-use Rattle.std.proofs.Common.{◌≡◌, ℕ, suc, ◌-◌, ◌<◌, ◌≤◌, Bool, true, false, ◌&&◌, ◌||◌, not, ◌==◌, if◌then◌else◌, Option, Some, None, List, [], ◌∷◌, ◌++◌, length, drop, ◌⊎◌, inl, inr, refl, sym, ap, subst, ◌∙◌, append_assoc, length-append, arith}
+use Rattle.std.proofs.Common.{◌≡◌, ℕ, ◌≤◌, Bool, true, false, ◌&&◌, ◌||◌, ◌==◌, if◌then◌else◌, Option, Some, None, List, [], ◌∷◌, ◌++◌, length, inl, inr, refl, sym, ap, subst, ◌∙◌, arith}
 use Rattle.std.specs.List.{list_any}
-use Rattle.text_stream.specs.Classes.{class_of}
 use Rattle.es5_lexer.specs.Characters.{is_line_end, is_space, is_line_end_class, is_space_class}
 use Rattle.es5_lexer.specs.Trivia.{is_blank, is_line_comment, EndsLine, IsCommentRest, IsBlockComment}
 use Rattle.es5_lexer.specs.Texts.{Mark, mark, chars, read_by, Item, blank, line, block, token, text, Fit, ended_by, ended_in, has_token, ended_behind, lexemes}
-use Rattle.es5_lexer.specs.Reading.{last, trivium_with, behind_line, block_comment, comment, leading_trivium, Passes, none, one}
+use Rattle.es5_lexer.specs.Reading.{trivium_with, behind_line, block_comment, comment, leading_trivium}
 use Rattle.es5_lexer.specs.declared.tokens.Goal.{Goal}
 use Rattle.es5_lexer.specs.declared.trivia.Trivium.{Trivium}
-use Rattle.es5_lexer.proofs.Choices.{split, then_in, else_in, is_same, or_cases, not_or, not_true, true_not, or_not, never}
+use Rattle.es5_lexer.proofs.Choices.{split, then_in, else_in, is_same, not_or, or_not}
 use Rattle.es5_lexer.proofs.ClassLemmas.{slash}
-use Rattle.es5_lexer.proofs.ListLemmas.{last-is}
 
 -- characters and marks
 

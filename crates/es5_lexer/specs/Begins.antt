@@ -1,6 +1,5 @@
 -- Which texts are the beginning of one that has tokens.
 use Rattle.std.specs.Prelude.{◌≡◌, ℕ, Bool, true, false, ◌&&◌, ◌==◌, List, [], ◌∷◌, ◌++◌, ◌⊎◌}
-use Rattle.std.specs.List.{list_all}
 use Rattle.es5_lexer.specs.Characters.{is_hex}
 use Rattle.es5_lexer.specs.Texts.{Mark, mark, chars, Lexes}
 use Rattle.es5_lexer.specs.declared.tokens.Goal.{Goal}

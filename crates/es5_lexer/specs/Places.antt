@@ -1,6 +1,6 @@
 -- What the calls on places in a token compute: how a place goes on by a character, and what ends at
 -- it. The files on the kinds of tokens say what a token is; this says no more of it.
-use Rattle.std.specs.Prelude.{ℕ, Bool, true, false, ◌&&◌, ◌||◌, not, ◌==◌, if◌then◌else◌, Option, Some, None}
+use Rattle.std.specs.Prelude.{ℕ, Bool, true, false, ◌&&◌, ◌==◌, if◌then◌else◌, Option, Some, None}
 use Rattle.es5_lexer.specs.Characters.{is_start, is_part, is_line_end, is_digit, is_hex, is_octal, is_escape_of}
 use Rattle.es5_lexer.specs.Numbers.{is_nonzero, is_exponent_mark, is_hex_mark, is_sign}
 use Rattle.es5_lexer.specs.Strings.{quote_of}

@@ -1,5 +1,5 @@
 -- What may still come at each place in a token of some kind.
-use Rattle.std.specs.Prelude.{◌≡◌, ℕ, Bool, true, Option, Some, None, List, [], ◌∷◌, ◌⊎◌}
+use Rattle.std.specs.Prelude.{◌≡◌, ℕ, true, Some, List, [], ◌∷◌, ◌⊎◌}
 use Rattle.es5_lexer.specs.Characters.{is_digit, is_escape_of}
 use Rattle.es5_lexer.specs.Names.{AreParts, AreEscaped, IsName}
 use Rattle.es5_lexer.specs.Punctuators.{spelling, is_under}

@@ -1,5 +1,5 @@
 -- What the calls on the characters of names compute. `specs/Names` says what a name spells.
-use Rattle.std.specs.Prelude.{ℕ, Bool, true, false, ◌==◌, if◌then◌else◌, Option, Some, None, List, [], ◌∷◌, length}
+use Rattle.std.specs.Prelude.{ℕ, ◌==◌, if◌then◌else◌, Option, Some, None, List, [], ◌∷◌, length}
 use Rattle.es5_lexer.specs.Characters.{escaped}
 use Rattle.es5_lexer.specs.declared.names.Spelled.{Spelled}
 

@@ -10,7 +10,7 @@
 -- A digit may stand behind `\` whatever follows it (B.1.2 has the octal ones, and this grammar also
 -- takes 8 and 9). A CR and the LF behind it are one LineTerminatorSequence; since no LF stands in a
 -- string but behind `\` or that CR, nothing need be said of a CR alone.
-use Rattle.std.specs.Prelude.{◌≡◌, ℕ, Bool, true, false, ◌&&◌, ◌||◌, not, List, [], ◌∷◌, ◌==◌, ◌⊎◌}
+use Rattle.std.specs.Prelude.{◌≡◌, ℕ, Bool, true, ◌||◌, not, List, [], ◌∷◌, ◌==◌, ◌⊎◌}
 use Rattle.es5_lexer.specs.Characters.{is_line_end, is_hex}
 use Rattle.es5_lexer.specs.declared.places.Quote.{Quote}
 use Rattle.es5_lexer.specs.declared.places.Quote.TheVariants.{Double, Single}

@@ -8,7 +8,6 @@ use Rattle.es5_lexer.specs.Strings.{IsString}
 use Rattle.es5_lexer.specs.Patterns.{IsPattern}
 use Rattle.es5_lexer.specs.declared.tokens.Goal.{Goal}
 use Rattle.es5_lexer.specs.declared.tokens.Goal.TheVariants.{Div, RegExp}
-use Rattle.es5_lexer.specs.declared.tokens.Punct.{Punct}
 use Rattle.es5_lexer.specs.declared.tokens.Punct.TheVariants.{Slash}
 use Rattle.es5_lexer.specs.declared.tokens.Token.{Token}
 use Rattle.es5_lexer.specs.declared.tokens.Token.TheVariants.{Ident, Get, Set, Word as AWord, EscapedWord, Punct as APunct, Number, Text, Pattern}

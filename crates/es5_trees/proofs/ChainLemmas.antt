@@ -1,5 +1,5 @@
 -- The levels of binary operators spell what flat chains spell.
-use Rattle.std.proofs.Common.{◌≡◌, ℕ, suc, ◌<◌, ◌≤◌, Bool, true, List, [], ◌∷◌, ◌⊎◌, inl, inr, refl, sym, ap, subst, ◌∙◌, arith}
+use Rattle.std.proofs.Common.{◌≡◌, ℕ, suc, ◌≤◌, Bool, true, List, ◌∷◌, ◌⊎◌, inl, inr, refl, sym, ap, subst, ◌∙◌, arith}
 use Rattle.std.proofs.lemmas.Bool.{cases_lt}
 use Rattle.es5_lexer.specs.declared.tokens.Lexeme.{Lexeme}
 use Rattle.es5_trees.specs.Words.{level}
@@ -68,18 +68,19 @@ grown i n (operand v) x u rest h low some may good = record {
 }
 grown i n (operation a y c) x u rest h low some may good =
     elim (compare (level x.token) (level y.token)) [
-        inl looser ↦ record {
-          tree = operation (operation a y c) x (operand u);
-          good = ((low, some, may), ((looser, h.0.1, h.0.2), h.1, h.2), good);
-          spells = refl;
-        }
+      | inl looser ↦ record {
+        tree = operation (operation a y c) x (operand u);
+        good = ((low, some, may), ((looser, h.0.1, h.0.2), h.1, h.2), good);
+        spells = refl;
+      }
       | inr tighter ↦
           let g = grown i (suc (level y.token)) c x u rest h.2 tighter some may good in
           record {
             tree = operation a y g.tree;
             good = (h.0, subst (λ (w : List Lexeme). GoodBinary i (level y.token) a (y ∷ w)) (sym g.spells) h.1, g.good);
             spells = ap (λ (w : List Lexeme). binary_text a (y ∷ w)) g.spells;
-          } ]
+          }
+    ]
 
 record Built (i : Bool) (b : Binary) (tail : Tail) (rest : List Lexeme) : Type 0 where
   pub tree : Binary

@@ -1,12 +1,11 @@
 -- Programs by their trees: lists of tokens, `⏎` where a line ends before one.
-use Rattle.std.proofs.Common.{◌≡◌, ℕ, ◌≤◌, Bool, true, false, List, [], ◌∷◌, refl, arith, rules, lit≤}
+use Rattle.std.proofs.Common.{true, false, [], ◌∷◌, refl, arith, rules, lit≤}
 use Rattle.es5_lexer.specs.declared.tokens.Word.TheVariants.{New as NewWord, Var, If, Else, Do, While, For, In, Return, Continue}
 use Rattle.es5_lexer.specs.declared.tokens.Punct.TheVariants.{LeftBrace, RightBrace, LeftParen, RightParen, LeftBracket, RightBracket, Dot, Semicolon, Comma, Question, Colon, Assign, Plus, PlusPlus, Slash}
 use Rattle.es5_lexer.specs.declared.tokens.Token.TheVariants.{Ident, Get, Set, Number, Pattern}
 use Rattle.es5_trees.specs.Words.{lexeme, mark, word}
-use Rattle.es5_trees.specs.Trees.{Names, one_name, more_names, Params, no_params, params, End, semicolon, omitted, Expr, one, more, value, assign, Cond, plain, choice, Binary, operand, operation, Unary, unmarked, prefix, Postfix, left, update, Left, new_left, call_left, member, new_new, Call, call, call_call, call_index, call_dot, Member, primary, function_member, member_index, member_dot, new_member, Args, no_args, args, Function, nameless, named, Body, body, Primary, atom, parens, empty_array, array, empty_object, object, comma_object, Items, one_item, more_items, Props, one_prop, more_props, Prop, pair, getter, setter, Decl, bare, initialised, Decls, one_decl, more_decls, Optional, absent, present, Block, braces, Statements, no_statement, more_statements, Statement, block, empty, variables, expression, if_only, if_else, do_while, loop, for, for_var, for_in, for_var_in, jump, jump_to, return_only, return, throw, label, debugger, switch, switch_default, try_catch, try_finally, try_both, Cases, no_case, more_cases, Catch, catch, Finally, finally, Elements, no_element, more_elements, Element, statement, declaration}
-use Rattle.es5_trees.specs.Good.{GoodElements}
-use Rattle.es5_trees.specs.Programs.{IsProgram, IsProgramWithin}
+use Rattle.es5_trees.specs.Trees.{semicolon, omitted, one, value, assign, plain, choice, operand, operation, unmarked, prefix, left, update, new_left, call_left, member, call, call_call, call_dot, primary, member_dot, new_member, no_args, args, body, atom, parens, array, object, one_item, one_prop, more_props, pair, getter, bare, one_decl, absent, present, braces, no_statement, more_statements, block, empty, variables, expression, if_else, do_while, for, for_in, jump, return_only, label, no_element, more_elements, statement}
+use Rattle.es5_trees.specs.Programs.{IsProgram}
 
 -- nothing
 pub nothing : IsProgram []

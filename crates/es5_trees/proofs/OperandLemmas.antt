@@ -1,18 +1,15 @@
 -- What follows an operand that an expression begins with: the expression has ended there, or a token
 -- that goes on with it comes.
-use Rattle.std.proofs.Common.{◌≡◌, ℕ, suc, ◌≤◌, Bool, true, false, not, ◌&&◌, ◌||◌, nat_le, List, [], ◌∷◌, ◌⊎◌, inl, inr, refl, sym, ap, subst, ◌∙◌, arith}
-use Rattle.es5_lexer.specs.declared.tokens.Word.{Word}
-use Rattle.es5_lexer.specs.declared.tokens.Word.TheVariants.{New as NewWord, Function as FunctionWord, Var, If, Do, For, Return, Throw, Debugger, Switch, Try}
-use Rattle.es5_lexer.specs.declared.tokens.Punct.{Punct}
-use Rattle.es5_lexer.specs.declared.tokens.Punct.TheVariants.{LeftBrace, LeftParen, LeftBracket, Dot, Semicolon, Comma, Question, Colon, RightBrace}
+use Rattle.std.proofs.Common.{◌≡◌, ℕ, ◌≤◌, Bool, true, false, not, ◌&&◌, ◌||◌, List, [], ◌∷◌, ◌⊎◌, inl, inr, refl, sym, ap, ◌∙◌, arith}
+use Rattle.es5_lexer.specs.declared.tokens.Punct.TheVariants.{Colon}
 use Rattle.es5_lexer.specs.declared.tokens.Token.{Token}
-use Rattle.es5_lexer.specs.declared.tokens.Token.TheVariants.{Ident, Get, Set, Word as AWord, EscapedWord, Punct as APunct, Number, Text, Pattern}
+use Rattle.es5_lexer.specs.declared.tokens.Token.TheVariants.{Ident, Number, Pattern}
 use Rattle.es5_lexer.specs.declared.tokens.Lexeme.{Lexeme}
-use Rattle.es5_trees.specs.Words.{lexeme, mark, word, is_prefix, is_update, is_assign, level}
-use Rattle.es5_trees.specs.Trees.{Names, one_name, more_names, Params, no_params, params, End, semicolon, omitted, Expr, one, more, Assign, value, assign, Cond, plain, choice, Binary, operand, operation, Unary, unmarked, prefix, Postfix, left, update, Left, new_left, call_left, New, member, new_new, Call, call, call_call, call_index, call_dot, Member, primary, function_member, member_index, member_dot, new_member, Args, no_args, args, Function, nameless, named, Body, body, Primary, atom, parens, empty_array, array, empty_object, object, comma_object, Items, one_item, more_items, Props, one_prop, more_props, Prop, pair, getter, setter, Decl, bare, initialised, Decls, one_decl, more_decls, Optional, absent, present, Block, braces, Statements, no_statement, more_statements, Statement, block, empty, variables, expression, if_only, if_else, do_while, loop, for, for_var, for_in, for_var_in, jump, jump_to, return_only, return, throw, label, debugger, switch, switch_default, try_catch, try_finally, try_both, Cases, no_case, more_cases, Catch, catch, Finally, finally, Elements, no_element, more_elements, Element, statement, declaration}
-use Rattle.es5_trees.specs.Spelling.{end_text, expr_text, assign_text, cond_text, binary_text, unary_text, postfix_text, left_text, new_text, call_text, member_text, args_text, primary_text, statement_text, statements_text, element_text, elements_text}
-use Rattle.es5_trees.specs.Endings.{Ending, after_operand, after_update, after_name, after_word, postfix_ending, unary_ending, binary_ending, cond_ending, assign_ending, expr_ending, is_held, is_right_brace, may_omit, Ends}
-use Rattle.es5_trees.specs.Good.{GoodExpr, GoodAssign, GoodCond, GoodBinary, GoodUnary, GoodPostfix, GoodStatement, GoodStatements}
+use Rattle.es5_trees.specs.Words.{mark, is_prefix, level}
+use Rattle.es5_trees.specs.Trees.{End, semicolon, omitted, Expr, one, more, Assign, value, assign, Cond, plain, choice, Binary, operand, operation, Unary, unmarked, prefix, Postfix, left, update, Left, new_left, call_left, New, member, new_new, Call, call, call_call, call_index, call_dot, Member, primary, function_member, member_index, member_dot, new_member, Args, no_args, args, Function, nameless, named, Primary, atom, parens, empty_array, array, empty_object, object, comma_object, braces, Statement, block, empty, variables, expression, if_only, if_else, do_while, loop, for, for_var, for_in, for_var_in, jump, jump_to, return_only, return, throw, label, debugger, switch, switch_default, try_catch, try_finally, try_both}
+use Rattle.es5_trees.specs.Spelling.{end_text, expr_text, assign_text, cond_text, binary_text, unary_text, postfix_text, left_text, new_text, call_text, member_text, args_text, primary_text, statement_text}
+use Rattle.es5_trees.specs.Endings.{postfix_ending, unary_ending, binary_ending, cond_ending, assign_ending, expr_ending, is_held, is_right_brace, may_omit, Ends}
+use Rattle.es5_trees.specs.Good.{GoodExpr, GoodAssign, GoodCond, GoodBinary, GoodUnary, GoodStatement}
 
 -- an operand of one token
 abbrev pub is_operand : Token → Bool
@@ -162,14 +159,17 @@ no_end e omitted rest y w s h f = stuck y w s (ap (may_omit (expr_ending e)) f �
     brace Number o = refl
     brace Pattern o = refl
     brace _ o = absurd cc
+
     tests : (a b c : Bool) → a ≡ false → ((b ≡ false) ⊎ (c ≡ true)) → (a || (b && not c)) ≡ true → ⊥
     tests true b c e h f = absurd cc
     tests false true true e h f = absurd cc
     tests false false c e h f = absurd cc
     tests false true false e (inl h) f = absurd cc
     tests false true false e (inr h) f = absurd cc
+
     held : (t : Token) → t ≡ Pattern → is_held (expr_ending e) t ≡ true
     held t p = ap (is_held (expr_ending e)) p ∙ expr_holds e
+
     stuck : (y : Lexeme) (w : List Lexeme) → IsSecond y → may_omit (expr_ending e) (y ∷ w) ≡ true → ⊥
     stuck y w (o, inl n) h = tests (is_right_brace y.token) y.newline (is_held (expr_ending e) y.token) (brace y.token o) (inl n) h
     stuck y w (o, inr p) h = tests (is_right_brace y.token) y.newline (is_held (expr_ending e) y.token) (brace y.token o) (inr (held y.token p)) h

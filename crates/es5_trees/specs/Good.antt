@@ -2,17 +2,15 @@
 -- levels, that `in` stands only where it may, that each token is of its set, where a semicolon may be
 -- left out, that no line ends where none may, and that the first branch of an `if` leaves no `else` to
 -- another. What follows counts by its first token alone, at the end of a statement.
-use Rattle.std.specs.Prelude.{◌≡◌, ℕ, suc, ◌≤◌, Bool, true, false, not, ◌||◌, List, [], ◌∷◌}
-use Rattle.es5_lexer.specs.declared.tokens.Word.{Word}
-use Rattle.es5_lexer.specs.declared.tokens.Word.TheVariants.{Var, Else, While, In, Default, Catch as CatchWord, Finally as FinallyWord}
-use Rattle.es5_lexer.specs.declared.tokens.Punct.{Punct}
+use Rattle.std.specs.Prelude.{◌≡◌, ℕ, suc, ◌≤◌, Bool, true, false, not, ◌||◌, List, ◌∷◌}
+use Rattle.es5_lexer.specs.declared.tokens.Word.TheVariants.{Else, While, In, Default}
 use Rattle.es5_lexer.specs.declared.tokens.Punct.TheVariants.{RightBrace, RightParen, LeftBrace, RightBracket, LeftBracket, LeftParen, Dot, Semicolon, Comma, Question, Colon}
 use Rattle.es5_lexer.specs.declared.tokens.Token.{Token}
 use Rattle.es5_lexer.specs.declared.tokens.Lexeme.{Lexeme}
 use Rattle.es5_trees.specs.Words.{mark, word, is_ident, is_name, is_key, is_atom, is_update, is_prefix, level, is_in, is_assign, is_loop_word, is_jump_word, is_on_line, may_begin_statement}
-use Rattle.es5_trees.specs.Trees.{Names, one_name, more_names, Params, no_params, params, End, semicolon, omitted, Expr, one, more, Assign, value, assign, Cond, plain, choice, Binary, operand, operation, Unary, unmarked, prefix, Postfix, left, update, Left, new_left, call_left, New, member, new_new, Call, call, call_call, call_index, call_dot, Member, primary, function_member, member_index, member_dot, new_member, Args, no_args, args, Function, nameless, named, Body, body, Primary, atom, parens, empty_array, array, empty_object, object, comma_object, Items, one_item, more_items, Props, one_prop, more_props, Prop, pair, getter, setter, Decl, bare, initialised, Decls, one_decl, more_decls, Optional, absent, present, Block, braces, Statements, no_statement, more_statements, Statement, block, empty, variables, expression, if_only, if_else, do_while, loop, for, for_var, for_in, for_var_in, jump, jump_to, return_only, return, throw, label, debugger, switch, switch_default, try_catch, try_finally, try_both, Cases, no_case, more_cases, Catch, catch, Finally, finally, Elements, no_element, more_elements, Element, statement, declaration}
-use Rattle.es5_trees.specs.Spelling.{end_text, commas, expr_text, assign_text, cond_text, binary_text, unary_text, args_text, body_text, items_text, props_text, decls_text, optional_text, statement_text, statements_text, cases_text, catch_text, finally_text, elements_text}
-use Rattle.es5_trees.specs.Endings.{Ending, after_word, expr_ending, decls_ending, Ends, is_open}
+use Rattle.es5_trees.specs.Trees.{Names, one_name, more_names, Params, no_params, params, Expr, one, more, Assign, value, assign, Cond, plain, choice, Binary, operand, operation, Unary, unmarked, prefix, Postfix, left, update, Left, new_left, call_left, New, member, new_new, Call, call, call_call, call_index, call_dot, Member, primary, function_member, member_index, member_dot, new_member, Args, no_args, args, Function, nameless, named, Body, body, Primary, atom, parens, empty_array, array, empty_object, object, comma_object, Items, one_item, more_items, Props, one_prop, more_props, Prop, pair, getter, setter, Decl, bare, initialised, Decls, one_decl, more_decls, Optional, absent, present, Block, braces, Statements, no_statement, more_statements, Statement, block, empty, variables, expression, if_only, if_else, do_while, loop, for, for_var, for_in, for_var_in, jump, jump_to, return_only, return, throw, label, debugger, switch, switch_default, try_catch, try_finally, try_both, Cases, no_case, more_cases, Catch, catch, Finally, finally, Elements, no_element, more_elements, Element, statement, declaration}
+use Rattle.es5_trees.specs.Spelling.{end_text, commas, expr_text, assign_text, binary_text, args_text, items_text, props_text, decls_text, optional_text, statement_text, statements_text, cases_text, catch_text, finally_text, elements_text}
+use Rattle.es5_trees.specs.Endings.{after_word, expr_ending, decls_ending, Ends, is_open}
 
 -- identifiers
 abbrev pub GoodNames : Names → Type 0
@@ -168,13 +166,13 @@ abbrev mutual
       × GoodStatement s rest
   GoodStatement (for w o a m b n d c s) rest =
       (GoodOptional false a (mark Semicolon m ∷ optional_text b (mark Semicolon n ∷ optional_text d (mark RightParen c ∷ statement_text s rest)))
-       × GoodOptional true b (mark Semicolon n ∷ optional_text d (mark RightParen c ∷ statement_text s rest))
-       × GoodOptional true d (mark RightParen c ∷ statement_text s rest))
+      × GoodOptional true b (mark Semicolon n ∷ optional_text d (mark RightParen c ∷ statement_text s rest))
+      × GoodOptional true d (mark RightParen c ∷ statement_text s rest))
       × GoodStatement s rest
   GoodStatement (for_var w o v ds m b n d c s) rest =
       (GoodDecls false ds (mark Semicolon m ∷ optional_text b (mark Semicolon n ∷ optional_text d (mark RightParen c ∷ statement_text s rest)))
-       × GoodOptional true b (mark Semicolon n ∷ optional_text d (mark RightParen c ∷ statement_text s rest))
-       × GoodOptional true d (mark RightParen c ∷ statement_text s rest))
+      × GoodOptional true b (mark Semicolon n ∷ optional_text d (mark RightParen c ∷ statement_text s rest))
+      × GoodOptional true d (mark RightParen c ∷ statement_text s rest))
       × GoodStatement s rest
   GoodStatement (for_in w o l n e c s) rest =
       GoodLeft l (word In n ∷ expr_text e (mark RightParen c ∷ statement_text s rest))
@@ -203,7 +201,7 @@ abbrev mutual
       × GoodCases cs (mark RightBrace r ∷ rest)
   GoodStatement (switch_default w o e c l cs d n ss ds r) rest =
       (GoodExpr true e (mark RightParen c ∷ mark LeftBrace l ∷ cases_text cs (word Default d ∷ mark Colon n ∷ statements_text ss (cases_text ds (mark RightBrace r ∷ rest))))
-       × GoodCases cs (word Default d ∷ mark Colon n ∷ statements_text ss (cases_text ds (mark RightBrace r ∷ rest))))
+      × GoodCases cs (word Default d ∷ mark Colon n ∷ statements_text ss (cases_text ds (mark RightBrace r ∷ rest))))
       × GoodStatements ss (cases_text ds (mark RightBrace r ∷ rest))
       × GoodCases ds (mark RightBrace r ∷ rest)
   GoodStatement (try_catch n b c) rest = GoodBlock b (catch_text c rest) × GoodCatch c rest

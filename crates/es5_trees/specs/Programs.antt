@@ -1,5 +1,5 @@
 -- Programs (ECMA-262 5.1, section 14).
-use Rattle.std.specs.Prelude.{◌≡◌, ℕ, ◌≤◌, List, [], ◌∷◌}
+use Rattle.std.specs.Prelude.{◌≡◌, ℕ, ◌≤◌, List, []}
 use Rattle.es5_lexer.specs.declared.tokens.Lexeme.{Lexeme}
 use Rattle.es5_trees.specs.Trees.{Elements}
 use Rattle.es5_trees.specs.Spelling.{elements_text}

@@ -1,10 +1,7 @@
 -- The tokens of each tree, in front of what follows it.
-use Rattle.std.specs.Prelude.{Bool, true, false, List, [], ◌∷◌}
-use Rattle.es5_lexer.specs.declared.tokens.Word.{Word}
+use Rattle.std.specs.Prelude.{Bool, false, List, [], ◌∷◌}
 use Rattle.es5_lexer.specs.declared.tokens.Word.TheVariants.{New as NewWord, Function as FunctionWord, Var, If, Else, Do, While, For, In, Return, Throw, Debugger, Switch, Case, Default, Try, Catch as CatchWord, Finally as FinallyWord}
-use Rattle.es5_lexer.specs.declared.tokens.Punct.{Punct}
 use Rattle.es5_lexer.specs.declared.tokens.Punct.TheVariants.{LeftBrace, RightBrace, LeftParen, RightParen, LeftBracket, RightBracket, Dot, Semicolon, Comma, Question, Colon, Assign as Equals}
-use Rattle.es5_lexer.specs.declared.tokens.Token.{Token}
 use Rattle.es5_lexer.specs.declared.tokens.Token.TheVariants.{Get, Set}
 use Rattle.es5_lexer.specs.declared.tokens.Lexeme.{Lexeme}
 use Rattle.es5_trees.specs.Words.{lexeme, mark, word}

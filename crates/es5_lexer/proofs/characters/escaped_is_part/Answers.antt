@@ -1,4 +1,4 @@
-use Rattle.std.proofs.Common.{◌≡◌, ◌∙◌, sym}
+use Rattle.std.proofs.Common.{◌∙◌, sym}
 use Rattle.es5_lexer.specs.Characters.{is_part}
 use Rattle.es5_lexer.proofs.EscapeLemmas.{escaped-some, escaped-none}
 use Rattle.es5_lexer.proofs.characters.escaped_is_part.Goals as goal

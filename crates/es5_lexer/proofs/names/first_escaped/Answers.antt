@@ -1,4 +1,4 @@
-use Rattle.std.proofs.Common.{◌≡◌, ◌∙◌, ap, sym, length, drop, take, ◌-◌}
+use Rattle.std.proofs.Common.{◌∙◌, ap, sym, length, drop, take, ◌-◌}
 use Rattle.es5_lexer.specs.Spelling.{spelled_by}
 use Rattle.es5_lexer.proofs.SpellingLemmas.{escaped_at}
 use Rattle.es5_lexer.proofs.names.first_escaped.Goals as goal

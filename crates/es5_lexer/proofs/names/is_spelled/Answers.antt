@@ -1,4 +1,4 @@
-use Rattle.std.proofs.Common.{◌≡◌, ◌∙◌, sym, ap, get_or, not, is_some, arith}
+use Rattle.std.proofs.Common.{◌∙◌, sym, ap, not, is_some, arith}
 use Rattle.es5_lexer.proofs.Choices.{not_swap}
 use Rattle.es5_lexer.proofs.SpellingLemmas.{first_spelled-some, word_goes, word_fails, word_longer, word_ends}
 use Rattle.es5_lexer.proofs.names.is_spelled.Goals as goal

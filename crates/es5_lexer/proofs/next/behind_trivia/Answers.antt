@@ -1,4 +1,4 @@
-use Rattle.std.proofs.Common.{◌≡◌, ◌∙◌, sym, ap, length, arith}
+use Rattle.std.proofs.Common.{◌∙◌, sym, ap, length, arith}
 use Rattle.es5_lexer.proofs.ListLemmas.{last-drop}
 use Rattle.es5_lexer.proofs.Choices.{if_true, if_false}
 use Rattle.es5_lexer.proofs.PassLemmas.{start, passes_next, trivium_less}

@@ -1,5 +1,4 @@
-use Rattle.std.proofs.Common.{◌≡◌, ◌∙◌, Bool, List, ℕ, drop, sym, subst}
-use Rattle.es5_lexer.specs.Reading.{Passes}
+use Rattle.std.proofs.Common.{◌∙◌, drop, sym}
 use Rattle.es5_lexer.proofs.NextLemmas.{found_next, none_next, passes_at}
 use Rattle.es5_lexer.proofs.next.next_token.Goals as goal
 

@@ -1,4 +1,4 @@
-use Rattle.std.proofs.Common.{◌≡◌, ◌∙◌, drop, length, ap, arith}
+use Rattle.std.proofs.Common.{drop, length, ap, arith}
 use Rattle.std.proofs.lemmas.List.{nil_from_length}
 use Rattle.std.proofs.lemmas.Bool.Decides.{nat_tests}
 use Rattle.es5_lexer.proofs.NextLemmas.{only_trivia, passes_at}
