@@ -17,6 +17,7 @@ use Rattle.es5_lexer.specs.declared.tokens.Punct.TheVariants.{LeftBrace, RightBr
 use Rattle.es5_lexer.specs.declared.places.Kind.{Kind}
 use Rattle.es5_lexer.specs.declared.places.Kind.TheVariants.{Name as AName, Punct as APunct, Number as ANumber, Text as AText, Pattern as APattern}
 use Rattle.es5_lexer.specs.declared.places.Place.{Place}
+use Rattle.es5_lexer.proofs.ListLemmas.{append-none}
 use Rattle.es5_lexer.proofs.Choices.{split, then_in, else_in, is_same}
 use Rattle.es5_lexer.proofs.ClassLemmas.{backslash, slash, double_quote, single_quote, point, digit}
 
@@ -149,13 +150,9 @@ longer_grown p c q e =
 as_kind : (g : Goal) (k l : Kind) (w : List ℕ) → k ≡ l → IsKind g l w → IsKind g k w
 as_kind g k l w e h = subst (λ (x : Kind). IsKind g x w) (sym e) h
 
-append_none : (u : List ℕ) → u ++ [] ≡ u
-append_none [] = refl
-append_none (c ∷ u) = ap (λ (w : List ℕ). c ∷ w) (append_none u)
-
 -- a punctuator and what completes it
 mark_whole : (g : Goal) (p : Punct) (k : Kind) (u w : List ℕ) → w ≡ spelling p ++ u → is_under g p ≡ true → MarkRest p k u → IsKind g k w
-mark_whole g p k [] w e f h = as_kind g k (APunct p) w h (e ∙ append_none (spelling p), f)
+mark_whole g p k [] w e f h = as_kind g k (APunct p) w h (e ∙ append-none (spelling p), f)
 mark_whole g p k (c ∷ u) w e f (inl (q, l, h)) =
     let s = longer_grown p c q l in
     mark_whole g q k u w

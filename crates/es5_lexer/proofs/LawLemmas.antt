@@ -1,23 +1,16 @@
 -- One list of tokens under given goals.
-use Rattle.std.proofs.Common.{◌≡◌, ℕ, Bool, true, false, if◌then◌else◌, Some, None, List, [], ◌∷◌, ◌++◌, length, length-append, refl, sym, ap, subst, ◌∙◌, arith}
+use Rattle.std.proofs.Common.{◌≡◌, ℕ, Bool, true, false, if◌then◌else◌, Some, None, List, [], ◌∷◌, ◌++◌, length, refl, sym, ap, subst, ◌∙◌, arith}
 use Rattle.es5_lexer.specs.Texts.{Mark, chars, asked, Item, blank, line, block, token, text, Fit, has_token, lexemes, Lexes, IsNextToken}
 use Rattle.es5_lexer.specs.Reading.{leading_trivium, trivium_with, token_at}
 use Rattle.es5_lexer.specs.declared.tokens.Goal.{Goal}
 use Rattle.es5_lexer.specs.declared.tokens.Token.{Token}
 use Rattle.es5_lexer.specs.declared.tokens.Lexeme.{Lexeme}
 use Rattle.es5_lexer.specs.declared.trivia.Trivium.{Trivium}
+use Rattle.es5_lexer.proofs.ListLemmas.{same_last}
 use Rattle.es5_lexer.proofs.TriviaLemmas.{chars-append, item_ends, item_found, item_lexemes}
 use Rattle.es5_lexer.proofs.TokenLemmas.{stands-token_at, stands-no_trivium, pair_of}
 use Rattle.es5_lexer.proofs.PassLemmas.{fits_first, one_pass}
 use Rattle.es5_lexer.proofs.NextLemmas.{next_passes}
-
--- the last parts of a text, told by their length
-
-same_back : (a b c d : List Mark) → a ++ b ≡ c ++ d → length b ≡ length d → b ≡ d
-same_back [] b [] d e h = e
-same_back (m ∷ a) b (n ∷ c) d e h = let tail : a ++ b ≡ c ++ d = cc in same_back a b c d tail h
-same_back [] b (n ∷ c) d e h = absurd (omega (arith, ap length e, length-append c d))
-same_back (m ∷ a) b [] d e h = absurd (omega (arith, ap length e, length-append a b))
 
 length-chars : (w : List Mark) → length (chars w) ≡ length w
 length-chars [] = refl
@@ -46,7 +39,7 @@ alone (token t a q) items rest = refl
 -- equal texts go on alike behind items that leave as much
 backs : (i j : Item) (k l : List Item) → text (i ∷ k) [] ≡ text (j ∷ l) [] → length (chars (text k [])) ≡ length (chars (text l [])) → text k [] ≡ text l []
 backs i j k l e h =
-    same_back (own i) (text k []) (own j) (text l []) (sym (own_text i k []) ∙ e ∙ own_text j l [])
+    same_last (own i) (text k []) (own j) (text l []) (sym (own_text i k []) ∙ e ∙ own_text j l [])
     (sym (length-chars (text k [])) ∙ h ∙ length-chars (text l []))
 
 some_trivium : (a b : Trivium) → Some a ≡ Some b → a ≡ b
@@ -152,12 +145,6 @@ one_list w end s t h k =
 pub record Same (x y : Lexeme) (v w : List ℕ) : Type 0 where
   pub token : x ≡ y
   pub rest : v ≡ w
-
-same_last : (a b c d : List ℕ) → a ++ b ≡ c ++ d → length b ≡ length d → b ≡ d
-same_last [] b [] d e h = e
-same_last (m ∷ a) b (n ∷ c) d e h = let tail : a ++ b ≡ c ++ d = cc in same_last a b c d tail h
-same_last [] b (n ∷ c) d e h = absurd (omega (arith, ap length e, length-append c d))
-same_last (m ∷ a) b [] d e h = absurd (omega (arith, ap length e, length-append a b))
 
 pub one_next : (g : Goal) (u : List ℕ) (x y : Lexeme) (v w : List ℕ) → IsNextToken g u x v → IsNextToken g u y w → Same x y v w
 one_next g u x y v w h k =

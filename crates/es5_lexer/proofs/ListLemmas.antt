@@ -29,3 +29,14 @@ front-is w a b n e f =
 -- a list as long as the one that it stands before
 pub last-drop : (w : List ℕ) (n : ℕ) → n ≤ length w → length (last n w) ≡ n
 last-drop w n h = omega (arith, length-drop (length w - n) w)
+
+pub append-none : (u : List ℕ) → u ++ [] ≡ u
+append-none [] = refl
+append-none (c ∷ u) = ap (λ (w : List ℕ). c ∷ w) (append-none u)
+
+-- the last parts of a list, told by their length
+pub same_last : {A : Type 0} (a b c d : List A) → a ++ b ≡ c ++ d → length b ≡ length d → b ≡ d
+same_last [] b [] d e h = e
+same_last (m ∷ a) b (n ∷ c) d e h = let tail : a ++ b ≡ c ++ d = cc in same_last a b c d tail h
+same_last [] b (n ∷ c) d e h = absurd (omega (arith, ap length e, length-append c d))
+same_last (m ∷ a) b [] d e h = absurd (omega (arith, ap length e, length-append a b))

@@ -30,7 +30,7 @@ use Rattle.es5_lexer.proofs.ClassLemmas.{slash, digit, start-no_blank}
 use Rattle.es5_lexer.proofs.PlaceLemmas.{goes, ends_here}
 use Rattle.es5_lexer.proofs.FirstLemmas.{first_goes, empty_no_kind}
 use Rattle.es5_lexer.proofs.LongestLemmas.{IsLongest, Finds, nothing, longest, finds}
-use Rattle.es5_lexer.proofs.ListLemmas.{last-is, front-is}
+use Rattle.es5_lexer.proofs.ListLemmas.{append-none, last-is, front-is}
 
 -- tokens and kinds
 
@@ -266,10 +266,6 @@ none_left : (u a : List ℕ) → length (u ++ a) ≤ length u → a ≡ []
 none_left u [] h = refl
 none_left u (x ∷ a) h = absurd (omega (arith, length-append u (x ∷ a)))
 
-append_none : (u : List ℕ) → u ++ [] ≡ u
-append_none [] = refl
-append_none (c ∷ u) = ap (λ (w : List ℕ). c ∷ w) (append_none u)
-
 -- the longest token stands where nothing bars it
 pub longest-stands : (g : Goal) (w : List ℕ) (x : Longest) (l : IsLongest g w x) → may_precede (token_of x.kind (l.first ∷ l.others)) l.rest ≡ true → Stands g (token_of x.kind (l.first ∷ l.others)) (l.first ∷ l.others) l.rest
 longest-stands g w x l f = record {
@@ -298,7 +294,7 @@ stands-longest g t u r s = by_found _ (finds g (u ++ r))
     by_longest found x e l =
         let cut = longer_cut u r (l.first ∷ l.others) l.rest l.splits (l.most u r kind.kind refl kind.is) in
         let no_more : cut.more ≡ [] = s.longest cut.more l.rest (token_of x.kind (u ++ cut.more)) cut.back (kind_token g x.kind (u ++ cut.more) (subst (IsKind g x.kind) cut.front l.is)) in
-        let same_text : l.first ∷ l.others ≡ u = cut.front ∙ ap (λ (a : List ℕ). u ++ a) no_more ∙ append_none u in
+        let same_text : l.first ∷ l.others ≡ u = cut.front ∙ ap (λ (a : List ℕ). u ++ a) no_more ∙ append-none u in
         let same_rest : r ≡ l.rest = cut.back ∙ ap (λ (a : List ℕ). a ++ l.rest) no_more in
         let same_kind : x.kind ≡ kind.kind = one_kind g u x.kind kind.kind (subst (IsKind g x.kind) same_text l.is) kind.is in
         record {

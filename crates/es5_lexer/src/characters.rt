@@ -1,6 +1,5 @@
 //! The sets of characters that the lexical grammar names (ECMA-262 5.1, section 7).
-ghost use Rattle.std.specs.Prelude.{◌≡◌, ◌<◌, ◌≤◌, IsTrue, drop, length};
-ghost use Rattle.es5_lexer.specs.Reading.{last};
+ghost use Rattle.std.specs.Prelude.{◌≡◌, ◌<◌, IsTrue};
 ghost use Rattle.std.specs.Char.{digit_value};
 ghost use Rattle.es5_lexer.specs.Characters.{is_line_end, is_space, is_start, is_part};
 ghost use Rattle.es5_lexer.specs.Characters.{is_digit, is_hex, is_octal, is_escape_of, escaped, code_of, char_of};
@@ -128,20 +127,4 @@ fn hex_value(c: char) -> u32
     ensures few { result < 16 }
 {
     c.to_digit(16).unwrap_or(0)
-}
-
-/// So many characters, the last ones of the text.
-pub(crate) fn last(text: &[char], count: usize) -> &[char]
-    requires { count ≤ length text.now }
-    ensures { result.now ≡ last count text.now }
-{
-    &text[text.len() - count..]
-}
-
-/// The text from the place on.
-pub(crate) fn behind(text: &[char], place: usize) -> &[char]
-    requires { place ≤ length text.now }
-    ensures { result.now ≡ drop place text.now }
-{
-    &text[place..]
 }

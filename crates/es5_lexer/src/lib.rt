@@ -13,6 +13,7 @@ mod marks;
 mod names;
 mod next;
 mod places;
+mod slices;
 #[cfg(test)]
 mod tests;
 mod tokens;

@@ -3,7 +3,8 @@ ghost use Rattle.std.specs.Prelude.{◌≡◌, ◌<◌, bytes_eq, codes, length,
 ghost use Rattle.es5_lexer.specs.Names.{spelled, is_escaped, word_of, word_in, ident_of, token_by, name_token};
 ghost use Rattle.es5_lexer.specs.Spelling.{first_spelled, first_escaped};
 
-use crate::characters::{escaped, last};
+use crate::characters::escaped;
+use crate::slices::last;
 use crate::tokens::{Token, Word};
 
 /// The reserved words.

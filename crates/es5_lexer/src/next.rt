@@ -6,10 +6,11 @@ ghost use Rattle.es5_lexer.specs.Reading.{leading_trivium, Passes, token_of, tok
 ghost use Rattle.es5_lexer.specs.declared.tokens.Lexeme.{Lexeme};
 ghost use Rattle.es5_lexer.specs.declared.tokens.Goal.{Goal};
 
-use crate::characters::{behind, is_digit, is_start, last};
+use crate::characters::{is_digit, is_start};
 use crate::longest::{Longest, longest_token};
 use crate::names::name_token;
 use crate::places::Kind;
+use crate::slices::{behind, last};
 use crate::tokens::{Goal, Lexeme, Punct, Token};
 use crate::trivia::leading_trivium;
 
