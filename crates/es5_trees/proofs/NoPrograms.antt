@@ -1,6 +1,6 @@
 -- Lists of tokens that are no program.
 use Rattle.std.proofs.Common.{◌≡◌, Bool, true, false, List, [], ◌∷◌, inl, inr, refl, sym, ap, ◌∙◌}
-use Rattle.es5_lexer.specs.declared.tokens.Punct.TheVariants.{LeftBrace, RightBrace, Dot, Assign as Equals}
+use Rattle.es5_lexer.specs.declared.tokens.Punct.TheVariants.{LeftBrace, RightBrace, Dot, Slash, Assign as Equals}
 use Rattle.es5_lexer.specs.declared.tokens.Token.{Token}
 use Rattle.es5_lexer.specs.declared.tokens.Token.TheVariants.{Ident, Number, Pattern, Punct as APunct}
 use Rattle.es5_lexer.specs.declared.tokens.Lexeme.{Lexeme}
@@ -9,6 +9,7 @@ use Rattle.es5_trees.specs.Trees.{braces, Statements, no_statement, more_stateme
 use Rattle.es5_trees.specs.Spelling.{end_text, expr_text, statement_text, statements_text, elements_text}
 use Rattle.es5_trees.specs.Good.{GoodStatement, GoodStatements, GoodElements}
 use Rattle.es5_trees.specs.Programs.{IsProgram}
+use Rattle.es5_trees.proofs.DivisionLemmas.{IsBad, divided}
 use Rattle.es5_trees.proofs.OperandLemmas.{is_operand, IsSecond, two_operands, clash}
 
 -- a program that begins with two operands
@@ -87,3 +88,14 @@ brace_so (more_elements (declaration m z ps b) es) n x y w o s g e = no_clash _ 
 
 pub numbers_in_a_block : IsProgram (mark LeftBrace false ∷ lexeme Number false ∷ lexeme Number false ∷ mark RightBrace false ∷ lexeme Number false ∷ []) → ⊥
 numbers_in_a_block h = brace_so h.program false _ _ _ refl (refl, inl refl) h.good h.spells
+
+-- a⏎/b/.c with two divisions
+divided_so : (es : Elements) (x z y s d : Lexeme) (w : List Lexeme) → is_operand x.token ≡ true → IsBad z y s d → GoodElements es [] → x ∷ z ∷ y ∷ s ∷ d ∷ w ≡ elements_text es [] → ⊥
+divided_so no_element x z y s d w o b g e = absurd cc
+divided_so (more_elements (statement t) es) x z y s d w o b g e =
+    divided t (elements_text es []) x z y s d w o b g.0 (sym e)
+divided_so (more_elements (declaration m q ps c) es) x z y s d w o b g e =
+    clash _ x _ (z ∷ y ∷ s ∷ d ∷ w) (sym e) refl o
+
+pub divisions_on_the_next_line : IsProgram (lexeme Ident false ∷ mark Slash true ∷ lexeme Ident false ∷ mark Slash false ∷ mark Dot false ∷ lexeme Ident false ∷ []) → ⊥
+divisions_on_the_next_line h = divided_so h.program _ _ _ _ _ _ refl (record { first_slash = refl; operand = refl; second_slash = refl; dot = refl }) h.good h.spells
