@@ -1,0 +1,42 @@
+-- Lists and their last members.
+use Rattle.std.proofs.Common.{◌≡◌, ℕ, ◌-◌, ◌≤◌, List, [], ◌∷◌, ◌++◌, length, take, drop, refl, ap, ◌∙◌, arith, length-append, length-drop}
+use Rattle.es5_lexer.specs.Reading.{last}
+
+drop_front : (a b : List ℕ) → drop (length a) (a ++ b) ≡ b
+drop_front [] b = refl
+drop_front (c ∷ a) b = drop_front a b
+
+take_front : (a b : List ℕ) → take (length a) (a ++ b) ≡ a
+take_front [] b = refl
+take_front (c ∷ a) b = ap (λ (w : List ℕ). c ∷ w) (take_front a b)
+
+front_length : (a b : List ℕ) → length (a ++ b) - length b ≡ length a
+front_length a b = omega (arith, length-append a b)
+
+-- the last members of two lists
+pub last-append : (a b : List ℕ) → last (length b) (a ++ b) ≡ b
+last-append a b = ap (λ (n : ℕ). drop n (a ++ b)) (front_length a b) ∙ drop_front a b
+
+pub last-is : (w a b : List ℕ) (n : ℕ) → w ≡ a ++ b → n ≡ length b → last n w ≡ b
+last-is w a b n e f = ap (λ (m : ℕ). last m w) f ∙ ap (λ (x : List ℕ). last (length b) x) e ∙ last-append a b
+
+-- the members before them
+pub front-is : (w a b : List ℕ) (n : ℕ) → w ≡ a ++ b → n ≡ length b → take (length w - n) w ≡ a
+front-is w a b n e f =
+    ap (λ (m : ℕ). take (length w - m) w) f ∙ ap (λ (x : List ℕ). take (length x - length b) x) e
+    ∙ ap (λ (m : ℕ). take m (a ++ b)) (front_length a b) ∙ take_front a b
+
+-- a list as long as the one that it stands before
+pub last-drop : (w : List ℕ) (n : ℕ) → n ≤ length w → length (last n w) ≡ n
+last-drop w n h = omega (arith, length-drop (length w - n) w)
+
+pub append-none : (u : List ℕ) → u ++ [] ≡ u
+append-none [] = refl
+append-none (c ∷ u) = ap (λ (w : List ℕ). c ∷ w) (append-none u)
+
+-- the last parts of a list, told by their length
+pub same_last : {A : Type 0} (a b c d : List A) → a ++ b ≡ c ++ d → length b ≡ length d → b ≡ d
+same_last [] b [] d e h = e
+same_last (m ∷ a) b (n ∷ c) d e h = let tail : a ++ b ≡ c ++ d = cc in same_last a b c d tail h
+same_last [] b (n ∷ c) d e h = absurd (omega (arith, ap length e, length-append c d))
+same_last (m ∷ a) b [] d e h = absurd (omega (arith, ap length e, length-append a b))

@@ -1,0 +1,14 @@
+pub mod Characters
+pub mod Trivia
+pub mod Names
+pub mod Punctuators
+pub mod Numbers
+pub mod Strings
+pub mod Patterns
+pub mod Tokens
+pub mod Texts
+pub mod Begins
+pub mod Places
+pub mod Rests
+pub mod Spelling
+pub mod Reading

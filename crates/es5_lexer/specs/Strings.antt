@@ -1,0 +1,72 @@
+-- String literals (ECMA-262 5.1, section 7.8.4).
+--
+--   StringLiteral    :: " DoubleStringCharacter* " | ' SingleStringCharacter* '
+--   StringCharacter  :: a character other than the quote, \ and line terminators
+--                     | \ EscapeSequence | LineContinuation
+--   EscapeSequence   :: x HexDigit HexDigit | u HexDigit HexDigit HexDigit HexDigit
+--                     | any other character that is no line terminator
+--   LineContinuation :: \ LineTerminatorSequence
+--
+-- A digit may stand behind `\` whatever follows it (B.1.2 has the octal ones, and this grammar also
+-- takes 8 and 9). A CR and the LF behind it are one LineTerminatorSequence; since no LF stands in a
+-- string but behind `\` or that CR, nothing need be said of a CR alone.
+use Rattle.std.specs.Prelude.{◌≡◌, ℕ, Bool, true, ◌||◌, not, List, [], ◌∷◌, ◌==◌, ◌⊎◌}
+use Rattle.es5_lexer.specs.Characters.{is_line_end, is_hex}
+use Rattle.es5_lexer.specs.declared.places.Quote.{Quote}
+use Rattle.es5_lexer.specs.declared.places.Quote.TheVariants.{Double, Single}
+
+-- the character of a quote
+abbrev pub quote_of : Quote → ℕ
+quote_of Double = 34
+quote_of Single = 39
+
+-- a character that stands for itself
+abbrev pub is_plain : Quote → ℕ → Bool
+is_plain q c = not ((c == quote_of q) || ((c == 92) || is_line_end c))
+
+-- a character behind `\` that is the whole of an escape: a line terminator other than CR too
+abbrev pub is_single_escape : ℕ → Bool
+is_single_escape c = not ((c == 120) || ((c == 117) || (c == 13)))
+
+abbrev mutual
+  -- what may stand behind a whole character of a string, its closing quote included
+  pub IsStringRest : Quote → List ℕ → Type 0
+  IsStringRest q [] = ⊥
+  IsStringRest q (c ∷ u) =
+      ((c ≡ quote_of q) × (u ≡ []))
+      ⊎ (((is_plain q c ≡ true) × IsStringRest q u) ⊎ ((c ≡ 92) × IsBehindEscape q u))
+
+  -- behind a `\`
+  pub IsBehindEscape : Quote → List ℕ → Type 0
+  IsBehindEscape q [] = ⊥
+  IsBehindEscape q (c ∷ u) =
+      ((c ≡ 120) × IsHex2Then q u)
+      ⊎ (((c ≡ 117) × IsHex4Then q u)
+      ⊎ (((c ≡ 13) × (IsStringRest q u ⊎ IsLfThen q u)) ⊎ ((is_single_escape c ≡ true) × IsStringRest q u)))
+
+  -- the LF of a CR LF, and the rest
+  pub IsLfThen : Quote → List ℕ → Type 0
+  IsLfThen q [] = ⊥
+  IsLfThen q (c ∷ u) = (c ≡ 10) × IsStringRest q u
+
+  -- hexadecimal digits, so many, and the rest
+  pub IsHex1Then : Quote → List ℕ → Type 0
+  IsHex1Then q [] = ⊥
+  IsHex1Then q (c ∷ u) = (is_hex c ≡ true) × IsStringRest q u
+
+  pub IsHex2Then : Quote → List ℕ → Type 0
+  IsHex2Then q [] = ⊥
+  IsHex2Then q (c ∷ u) = (is_hex c ≡ true) × IsHex1Then q u
+
+  pub IsHex3Then : Quote → List ℕ → Type 0
+  IsHex3Then q [] = ⊥
+  IsHex3Then q (c ∷ u) = (is_hex c ≡ true) × IsHex2Then q u
+
+  pub IsHex4Then : Quote → List ℕ → Type 0
+  IsHex4Then q [] = ⊥
+  IsHex4Then q (c ∷ u) = (is_hex c ≡ true) × IsHex3Then q u
+
+-- StringLiteral
+abbrev pub IsString : List ℕ → Type 0
+IsString [] = ⊥
+IsString (c ∷ u) = ((c ≡ 34) × IsStringRest Double u) ⊎ ((c ≡ 39) × IsStringRest Single u)

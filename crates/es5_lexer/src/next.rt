@@ -1,0 +1,105 @@
+//! Tokens on a slice of characters (ECMA-262 5.1, section 7): the plain form.
+ghost use Rattle.std.specs.Prelude.{◌≡◌, ◌≤◌, false, List, ℕ, drop, length, IfSome, IfNone, IsTrue, ◌↔◌, None, []};
+ghost use Rattle.es5_lexer.specs.Tokens.{is_barred, may_precede};
+ghost use Rattle.es5_lexer.specs.Texts.{IsNextToken, Lexes, read_by};
+ghost use Rattle.es5_lexer.specs.Reading.{leading_trivium, Passes, token_of, token_at};
+ghost use Rattle.es5_lexer.specs.declared.tokens.Lexeme.{Lexeme};
+ghost use Rattle.es5_lexer.specs.declared.tokens.Goal.{Goal};
+
+use crate::characters::{is_digit, is_start};
+use crate::longest::{Longest, longest_token};
+use crate::names::name_token;
+use crate::places::Kind;
+use crate::slices::{behind, last};
+use crate::tokens::{Goal, Lexeme, Punct, Token};
+use crate::trivia::leading_trivium;
+
+/// The first token at or behind the place, and the place behind it, where a slash is read by the goal;
+/// `None` exactly where no token begins there, be it that only trivia are left.
+pub fn next_token(text: &[char], place: usize, goal: Goal) -> Option<(Lexeme, usize)>
+    requires { place ≤ length text.now }
+    ensures within { IfSome result (λ found. found.1 ≤ length text.now) }
+    ensures found { IfSome result (λ found. IsNextToken goal (drop place text.now) found.0 (drop found.1 text.now)) }
+    ensures none { IfNone result ((x : Lexeme) (rest : List ℕ) → IsNextToken goal (drop place text.now) x rest → ⊥) }
+{
+    let (newline, rest) = behind_trivia(behind(text, place));
+    let Some((token, left)) = token_at(rest, goal) else {
+        return None;
+    };
+    Some((Lexeme { token, newline }, text.len() - left))
+}
+
+/// Whether all from the place on is trivia: white space, line terminators and comments.
+pub fn rest_is_trivia(text: &[char], place: usize) -> bool
+    requires { place ≤ length text.now }
+    ensures { (g : Goal) → IsTrue result ↔ Lexes (read_by g (drop place text.now)) g [] }
+{
+    let (_, rest) = behind_trivia(behind(text, place));
+    rest.is_empty()
+}
+
+/// What stands behind the trivia at the front, and whether a line has ended in them.
+fn behind_trivia(text: &[char]) -> (bool, &[char])
+    ensures passes { Passes false text.now result.0 result.1.now }
+    ensures ends { leading_trivium result.1.now ≡ None }
+{
+    let mut rest = text;
+    let mut newline = false;
+    'trivia: while let Some(trivium) = leading_trivium(rest) {
+        if trivium.ends_line {
+            newline = true;
+        }
+        rest = last(rest, trivium.left);
+    }
+    (newline, rest)
+}
+
+/// The token at the front, and how many characters stand behind it.
+fn token_at(text: &[char], goal: Goal) -> Option<(Token, usize)>
+    ensures value { result ≡ token_at goal text.now }
+{
+    let Some(Longest { kind, left }) = longest_token(goal, text) else {
+        return None;
+    };
+    let (front, rest) = text.split_at(text.len() - left);
+    let token = token_of(kind, front);
+    if may_precede(token, rest) {
+        Some((token, left))
+    } else {
+        None
+    }
+}
+
+/// The token of this text.
+fn token_of(kind: Kind, text: &[char]) -> Token
+    ensures { result ≡ token_of kind text.now }
+{
+    match kind {
+        Kind::Name => name_token(text),
+        Kind::Punct(p) => Token::Punct(p),
+        Kind::Number => Token::Number,
+        Kind::Text => Token::Text,
+        Kind::Pattern => Token::Pattern,
+    }
+}
+
+/// Whether the token may stand before this.
+fn may_precede(token: Token, rest: &[char]) -> bool
+    ensures { result ≡ may_precede token rest.now }
+{
+    match rest {
+        [c, ..] => !is_barred(token, *c),
+        [] => true,
+    }
+}
+
+/// Whether the character may not stand behind the token.
+fn is_barred(token: Token, c: char) -> bool
+    ensures { result ≡ is_barred token c }
+{
+    match token {
+        Token::Number => is_digit(c) || is_start(c) || c == '\\',
+        Token::Punct(Punct::Slash) => matches!(c, '/' | '*'),
+        _ => false,
+    }
+}

@@ -1,0 +1,5 @@
+pub mod Examples
+pub mod ChainLemmas
+pub mod OperandLemmas
+pub mod NoPrograms
+pub mod DivisionLemmas
