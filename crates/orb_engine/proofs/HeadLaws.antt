@@ -1,0 +1,149 @@
+-- What the bytes at the front of a list are: the first bytes of a head, too many for a head, or a head; and
+-- that a head is read in one way.
+use Rattle.std.proofs.Common.{◌≡◌, ℕ, ◌<◌, ◌≤◌, Bool, true, false, cond, nat_lt, nat_le, List, ◌++◌, length, take, drop, bytes_eq, codes, Option, Some, None, Result, Ok, Err, inl, inr, refl, sym, ap, subst, ◌∙◌, arith}
+use Rattle.std.proofs.lemmas.Bool.{cases_Bool}
+use Rattle.std.proofs.lemmas.Bool.Decides.{nat_tests}
+use Rattle.std.proofs.lemmas.List.{take-append-le, take-append-drop, length-append}
+use Rattle.std.proofs.lemmas.Option.{none-some}
+use Rattle.std.proofs.Math.Seq.{take-append_seam, drop-append_seam}
+use Rattle.httparse.specs.Grammar.{status_code}
+use Rattle.httparse.proofs.GrammarLemmas.{request_unique, response_unique}
+use Rattle.response_rules.specs.Heads.{HasEssence}
+use Rattle.response_rules.proofs.EssenceLemmas.{one_essence}
+use Rattle.http_exchange.specs.Head.{head_length}
+use Rattle.http_exchange.specs.Heads.{IsResponse}
+use Rattle.http_exchange.specs.Fields.{pairs_of}
+use Rattle.http_exchange.specs.Reading.{ReadsRequestHead, ReadsResponseHead}
+use Rattle.http_exchange.specs.RequestFields.{request_of}
+use Rattle.http_exchange.specs.ResponseFields.{frame_of}
+use Rattle.http_exchange.specs.declared.frames.BodyFrame.{BodyFrame}
+use Rattle.http_exchange.specs.declared.refusals.BadKind.{BadKind}
+use Rattle.http_exchange.specs.declared.request.RequestHead.{RequestHead}
+use Rattle.http_exchange.proofs.EndLemmas.{head_length-stays, head_length-alone}
+use Rattle.orb_engine.specs.Texts.{head_limit, IsHeadText, IsOpenHead, IsLongHead}
+use Rattle.orb_engine.specs.Heads.{Response, IsResponseHead}
+
+pub data HeadView : Type 0 where
+  Opens : HeadView
+  Longs : HeadView
+  Stands : (text rest : List ℕ) → HeadView
+
+view_by : List ℕ → Option ℕ → HeadView
+view_by l None = cond (nat_lt (length l) head_limit) Opens Longs
+view_by l (Some n) = cond (nat_le n head_limit) (Stands (take n l) (drop n l)) Longs
+
+-- what the bytes begin with
+pub view : List ℕ → HeadView
+unfolding view_by
+view l = view_by l (head_length l)
+
+pub view-open : (l : List ℕ) → IsOpenHead l → view l ≡ Opens
+unfolding view view_by
+view-open l h =
+    let less : nat_lt (length l) head_limit ≡ true = grind (arith, nat_tests, h.fits) in
+    ap (view_by l) h.open_ ∙ ap (λ t. cond t Opens Longs) less
+
+pub view-stands : (text rest : List ℕ) → IsHeadText text → view (text ++ rest) ≡ Stands text rest
+unfolding view view_by
+view-stands text rest h =
+    let fits : nat_le (length text) head_limit ≡ true = grind (arith, nat_tests, h.fits) in
+    ap (view_by (text ++ rest)) (head_length-stays text rest (length text) h.ends)
+    ∙ rw (fits, take-append_seam text rest, drop-append_seam text rest) refl
+
+-- a head doesn't end in bytes that hold no empty line
+ends_behind : (front rest : List ℕ) (n : ℕ) → head_length front ≡ None → head_length (front ++ rest) ≡ Some n → length front < n
+ends_behind front rest n open_ ends =
+    elim (cases_Bool (nat_le n (length front))) [
+      | inl within ↦
+          let less : n ≤ length front = grind (arith, nat_tests, within) in
+          let alone : head_length (take n front) ≡ Some n =
+          ap head_length (sym (take-append-le n front rest less)) ∙ head_length-alone (front ++ rest) n ends in
+          let here : head_length front ≡ Some n =
+          ap head_length (sym (take-append-drop n front)) ∙ head_length-stays (take n front) (drop n front) n alone in
+          absurd (none-some n (sym open_ ∙ here))
+      | inr behind ↦ grind (arith, nat_tests, behind)
+    ]
+
+long_by : (l : List ℕ) (o : Option ℕ) → head_limit ≤ length l → ((n : ℕ) → o ≡ Some n → head_limit < n) → view_by l o ≡ Longs
+unfolding view_by
+long_by l None long behind =
+    let more : nat_lt (length l) head_limit ≡ false = grind (arith, nat_tests, long) in ap (λ t. cond t Opens Longs) more
+long_by l (Some n) long behind =
+    let far : head_limit < n = behind n refl in
+    let more : nat_le n head_limit ≡ false = grind (arith, nat_tests, far) in
+    ap (λ t. cond t (Stands (take n l) (drop n l)) Longs) more
+
+pub view-long : (front rest : List ℕ) → IsLongHead front → view (front ++ rest) ≡ Longs
+unfolding view
+view-long front rest h =
+    long_by (front ++ rest) (head_length (front ++ rest)) (omega (arith, length-append front rest, h.full))
+    (λ n ends. omega (arith, ends_behind front rest n h.open_ ends, h.full))
+
+-- ---- readings
+
+pub request_once : (head : List ℕ) (a b : Result RequestHead BadKind) → ReadsRequestHead head a → ReadsRequestHead head b → a ≡ b
+request_once head a b (inl x) (inl y) = x.1 ∙ sym y.1
+request_once head a b (inl x) (inr y) = absurd (x.0 y.0 y.1)
+request_once head a b (inr x) (inl y) = absurd (y.0 x.0 x.1)
+request_once head a b (inr x) (inr y) =
+    x.2
+    ∙ ap (λ h. request_of (bytes_eq h.method (codes "HEAD")) (pairs_of h.fields)) (request_unique head x.0 y.0 _ _ x.1.0 y.1.0).0
+    ∙ sym y.2
+
+same_Ok : (f g : BodyFrame) → ◌≡◌ {A = Result BodyFrame BadKind} (Ok f) (Ok g) → f ≡ g
+same_Ok f g e = cc
+
+same_Err : {T : Type 0} (k l : BadKind) → ◌≡◌ {A = Result T BadKind} (Err k) (Err l) → k ≡ l
+same_Err k l e = cc
+
+no_Ok : (f : BodyFrame) (k : BadKind) → ◌≡◌ {A = Result BodyFrame BadKind} (Ok f) (Err k) → ⊥
+no_Ok f k e = cc
+
+pub ask_once : (head : List ℕ) (a b : RequestHead) → ReadsRequestHead head (Ok a) → ReadsRequestHead head (Ok b) → a ≡ b
+ask_once head a b x y = let e : ◌≡◌ {A = Result RequestHead BadKind} (Ok a) (Ok b) = request_once head (Ok a) (Ok b) x y in cc
+
+pub bad_request_once : (head : List ℕ) (k l : BadKind) → ReadsRequestHead head (Err k) → ReadsRequestHead head (Err l) → k ≡ l
+bad_request_once head k l x y = same_Err k l (request_once head (Err k) (Err l) x y)
+
+pub ask_or_bad : (head : List ℕ) (a : RequestHead) (k : BadKind) → ReadsRequestHead head (Ok a) → ReadsRequestHead head (Err k) → ⊥
+ask_or_bad head a k x y = let e : ◌≡◌ {A = Result RequestHead BadKind} (Ok a) (Err k) = request_once head (Ok a) (Err k) x y in cc
+
+same_response : (b b' : List ℕ) (s s' : ℕ) (fields fields' : List (List ℕ × List ℕ)) (e e' : Option (List ℕ × List ℕ)) (f f' : BodyFrame)
+    → b ≡ b' → s ≡ s' → fields ≡ fields' → e ≡ e' → f ≡ f'
+    → ◌≡◌ {A = Response} (record { bytes = b; status = s; fields = fields; essence = e; frame = f })
+    (record { bytes = b'; status = s'; fields = fields'; essence = e'; frame = f' })
+same_response b b' s s' fields fields' e e' f f' o p q r t = rw (o, p, q, r, t) refl
+
+-- where both are read from the same bytes
+pub response_once : (to_head : Bool) (r q : Response) → r.bytes ≡ q.bytes → IsResponseHead to_head r → IsResponseHead to_head q → r ≡ q
+response_once to_head r q same x y =
+    let reads : IsResponse r.bytes y.tree = subst (λ b. IsResponse b y.tree) (sym same) y.reads in
+    let tree : x.tree ≡ y.tree = (response_unique r.bytes x.tree y.tree _ _ x.reads.0 reads.0).0 in
+    let status : r.status ≡ q.status = x.status ∙ ap status_code tree ∙ sym y.status in
+    let fields : r.fields ≡ q.fields = x.fields ∙ ap (λ h. pairs_of h.fields) tree ∙ sym y.fields in
+    let frame : r.frame ≡ q.frame =
+    same_Ok r.frame q.frame
+    (sym x.frame ∙ ap (λ s. frame_of to_head s r.fields) status ∙ ap (frame_of to_head q.status) fields ∙ y.frame) in
+    let essence : r.essence ≡ q.essence =
+    one_essence q.fields r.essence q.essence (subst (λ f. HasEssence f r.essence) fields x.essence) y.essence in
+    same_response r.bytes q.bytes r.status q.status r.fields q.fields r.essence q.essence r.frame q.frame
+    same status fields essence frame
+
+pub bad_response_once : (head : List ℕ) (to_head : Bool) (k l : BadKind) → ReadsResponseHead head to_head (Err k)
+    → ReadsResponseHead head to_head (Err l) → k ≡ l
+bad_response_once head to_head k l (inl x) (inl y) = same_Err k l (x.1 ∙ sym y.1)
+bad_response_once head to_head k l (inl x) (inr y) = absurd (x.0 y.0 y.1)
+bad_response_once head to_head k l (inr x) (inl y) = absurd (y.0 x.0 x.1)
+bad_response_once head to_head k l (inr x) (inr y) =
+    same_Err k l
+    (sym x.2 ∙ ap (λ h. frame_of to_head (status_code h) (pairs_of h.fields)) (response_unique head x.0 y.0 _ _ x.1.0 y.1.0).0 ∙ y.2)
+
+pub response_or_bad : (r : Response) (to_head : Bool) (k : BadKind) → IsResponseHead to_head r → ReadsResponseHead r.bytes to_head (Err k) → ⊥
+response_or_bad r to_head k x (inl y) = y.0 x.tree x.reads
+response_or_bad r to_head k x (inr y) =
+    no_Ok r.frame k
+    (sym x.frame
+    ∙ ap (λ s. frame_of to_head s r.fields) x.status
+    ∙ ap (frame_of to_head (status_code x.tree)) x.fields
+    ∙ ap (λ h. frame_of to_head (status_code h) (pairs_of h.fields)) (response_unique r.bytes x.tree y.0 _ _ x.reads.0 y.1.0).0
+    ∙ y.2)

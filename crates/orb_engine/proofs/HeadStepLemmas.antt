@@ -1,0 +1,545 @@
+-- Steps through heads.
+use Rattle.std.proofs.Common.{◌≡◌, ℕ, ◌+◌, ◌≤◌, Bool, true, false, List, [], ◌∷◌, ◌++◌, length, take, drop, Option, Result, Ok, Err, refl, sym, ap, subst, ◌∙◌, arith, append_assoc, length-append}
+use Rattle.std.proofs.lemmas.Bool.{false≢true}
+use Rattle.std.specs.FinMap as map
+use Rattle.std.proofs.lemmas.List.{append-nil, take-append-drop, length-take-le}
+use Rattle.std.proofs.Math.Seq.{take-append_seam}
+use Rattle.httparse.specs.Grammar.{status_code}
+use Rattle.http_exchange.specs.Heads.{IsResponse}
+use Rattle.http_exchange.specs.Fields.{pairs_of}
+use Rattle.http_exchange.specs.declared.frames.BodyFrame.{BodyFrame}
+use Rattle.response_rules.specs.declared.deciding.Decider.{Decider}
+use Rattle.response_rules.specs.Reads.{HasRead as DeciderHasRead, head_of}
+use Rattle.media_state.specs.declared.states.MediaState.{MediaState}
+use Rattle.orb_engine.specs.HeadReads.{ReadsWell}
+use Rattle.orb_engine.proofs.AnswerLaws.{refusal-stands, items-longer}
+use Rattle.orb_io.specs.Told.{Gains, IsPrefix}
+use Rattle.http_exchange.specs.Reading.{ReadsRequestHead, ReadsResponseHead}
+use Rattle.http_exchange.specs.declared.refusals.BadKind.{BadKind}
+use Rattle.http_exchange.specs.declared.request.RequestHead.{RequestHead}
+use Rattle.orb_engine.specs.declared.settings.Settings.{Settings}
+use Rattle.orb_engine.specs.declared.engine.Engine.{Engine}
+use Rattle.orb_engine.specs.declared.engine.Asked.{Asked}
+use Rattle.orb_engine.specs.declared.engine.Stage.{Stage}
+use Rattle.orb_engine.specs.declared.engine.Stage.TheVariants as stage
+use Rattle.orb_engine.specs.declared.outcome.EngineOutcome.{EngineOutcome}
+use Rattle.orb_engine.specs.declared.outcome.EngineOutcome.TheVariants as outcome
+use Rattle.orb_engine.specs.Texts.{IsHeadText, IsOpenHead, IsLongHead}
+use Rattle.orb_engine.specs.Heads.{Request, id_of, admits, IsRefusedId, state_before}
+use Rattle.orb_engine.specs.Recording as cut
+use Rattle.orb_engine.specs.Recording.{Item, Tail, Recording, IsRecording, IsTail, is_open, spell_items, spell_tail}
+use Rattle.orb_engine.specs.Ends as ends
+use Rattle.orb_engine.specs.Ends.{End, stop_of}
+use Rattle.orb_engine.specs.Outputs.{output_of, written_items, written_tail}
+use Rattle.orb_engine.specs.Counts.{rules_of, rules_of_items, rules_of_tail}
+use Rattle.orb_engine.specs.Writing.{IsWriterFor, box_of}
+use Rattle.orb_engine.specs.Reads.{open_cut, table_of, counts_of, IsTold, Common, Asks, Answers, Stands, Reads, IsStop, Stops, Breaks, Halts, Goes, Takes, HasOpenRequest, HasWholeRequest, HasOpenResponse, HasWholeResponse, HasReadHeads}
+use Rattle.orb_engine.proofs.CutLemmas.{spell_items-append, spell_items-length}
+use Rattle.orb_engine.proofs.FillLemmas.{empty-open, output-asking, rules-asking, stands-as}
+
+-- no output comes of these tails
+pub output-quiet : (s : Settings) (items : List Item) (t : Tail) (more : List ℕ) (ended : Bool)
+    → written_tail s (table_of items) (length items) ended t ≡ []
+    → output_of s (record { items = items; tail = t; more = more }) ended ≡ written_items s map.empty 0 items
+unfolding output_of
+output-quiet s items t more ended none = ap (λ x. written_items s map.empty 0 items ++ x) none ∙ append-nil _
+
+pub rules-quiet : (s : Settings) (items : List Item) (t : Tail) (more : List ℕ) (ended : Bool)
+    → rules_of_tail s (table_of items) ended t ≡ []
+    → rules_of s (record { items = items; tail = t; more = more }) ended ≡ rules_of_items items
+unfolding rules_of
+rules-quiet s items t more ended none = ap (λ x. rules_of_items items ++ x) none ∙ append-nil _
+
+-- a refusal that gives nothing
+pub quiet-stops : (e e' : Engine) (s : Settings) (a : Option (List ℕ)) (k : Option ℕ) (m given : List ℕ) (items : List Item)
+    (t : Tail) (more : List ℕ) (o : EngineOutcome)
+    → IsRecording s m (record { items = items; tail = t; more = more })
+    → written_tail s (table_of items) (length items) false t ≡ [] → rules_of_tail s (table_of items) false t ≡ []
+    → IsStop o (stop_of s (record { items = items; tail = t; more = more }) false)
+    → Gains a a k k [] → given ++ (box_of e'.writer).bytes ≡ written_items s map.empty 0 items
+    → e'.counts ≡ counts_of (rules_of_items items) → IsTold e'.told s items given
+    → Stops e' s a a k k m given false o
+quiet-stops e e' s a k m given items t more o cut_ quiet rules stop none gave counts told = record {
+  pushed = [];
+  gained = none;
+  recording = record { items = items; tail = t; more = more };
+  cut = cut_;
+  stop = stop;
+  gave = ap (λ x. x ++ (box_of e'.writer).bytes) (append-nil given) ∙ gave ∙ sym (output-quiet s items t more false quiet);
+  counts = counts ∙ ap counts_of (sym (rules-quiet s items t more false rules));
+  told = subst (λ (x : List ℕ). IsTold e'.told s items x) (sym (append-nil given)) told;
+}
+
+asks-at : (t : Stage) (e : Engine) (s : Settings) (items : List Item) (tail : Tail) → t ≡ stage.Asking
+    → Stands t e s items tail → Asks e s items tail
+asks-at t e s items tail is h = subst (λ (u : Stage). Stands u e s items tail) is h
+
+answers-at : (t : Stage) (asked : Asked) (e : Engine) (s : Settings) (items : List Item) (tail : Tail) → t ≡ stage.Answering asked
+    → Stands t e s items tail → Answers asked e s items tail
+answers-at t asked e s items tail is h = subst (λ (u : Stage). Stands u e s items tail) is h
+
+-- an engine in a request head
+pub open-request : (e : Engine) (s : Settings) (m given : List ℕ) → Reads e s m given → e.stage ≡ stage.Asking
+    → HasOpenRequest e s m given
+open-request e s m given r is =
+    let a = asks-at e.stage e s r.items r.tail is r.stands in
+    record {
+      items = r.items;
+      head = a.head;
+      spells = r.cut.spells ∙ ap (λ t. spell_items r.items (spell_tail t [])) a.is ∙ ap (spell_items r.items) (append-nil a.head);
+      whole = r.cut.items;
+      text = subst (λ (t : Tail). IsTail s (table_of r.items) t) a.is r.cut.tail;
+      buffer = a.text;
+      media = a.media;
+      writer = a.writer;
+      gave = r.gave ∙ ap (λ t. output_of s (open_cut r.items t) false) a.is ∙ output-asking s r.items a.head [] false;
+      taken = r.taken;
+      common = r.common;
+    }
+
+pub reads-request : (e : Engine) (s : Settings) (m given : List ℕ) → HasOpenRequest e s m given → e.stage ≡ stage.Asking
+    → Reads e s m given
+reads-request e s m given h is = record {
+  items = h.items;
+  tail = cut.Asking h.head;
+  cut = record {
+    spells = h.spells ∙ ap (spell_items h.items) (sym (append-nil h.head));
+    items = h.whole;
+    tail = h.text;
+    last = λ _. refl;
+  };
+  open_ = refl;
+  gave = h.gave ∙ sym (output-asking s h.items h.head [] false);
+  taken = h.taken;
+  common = h.common;
+  stands = stands-as e.stage stage.Asking e s h.items _ is (record {
+    head = h.head;
+    is = refl;
+    text = h.buffer;
+    media = h.media;
+    writer = h.writer;
+  });
+}
+
+-- an engine in a response head
+pub open-response : (asked : Asked) (e : Engine) (s : Settings) (m given : List ℕ) → Reads e s m given → e.stage ≡ stage.Answering asked
+    → HasOpenResponse asked e s m given
+unfolding output_of
+open-response asked e s m given r is =
+    let a = answers-at e.stage asked e s r.items r.tail is r.stands in
+    let t = subst (λ (t : Tail). IsTail s (table_of r.items) t) a.is r.cut.tail in
+    record {
+      items = r.items;
+      request = a.request;
+      head = a.head;
+      spells = r.cut.spells ∙ ap (λ t. spell_items r.items (spell_tail t [])) a.is ∙ ap (λ x. spell_items r.items (a.request.bytes ++ x)) (append-nil a.head);
+      whole = r.cut.items;
+      good = t.0;
+      text = t.1;
+      buffer = a.text;
+      media = a.media;
+      writer = a.writer;
+      asks = a.asks;
+      state = a.state;
+      place = a.place;
+      gave = r.gave ∙ ap (λ t. output_of s (open_cut r.items t) false) a.is ∙ append-nil _;
+      taken = r.taken;
+      common = r.common;
+    }
+
+pub reads-response : (asked : Asked) (e : Engine) (s : Settings) (m given : List ℕ) → HasOpenResponse asked e s m given
+    → e.stage ≡ stage.Answering asked → Reads e s m given
+unfolding output_of
+reads-response asked e s m given h is = record {
+  items = h.items;
+  tail = cut.Answering h.request h.head;
+  cut = record {
+    spells = h.spells ∙ ap (λ x. spell_items h.items (h.request.bytes ++ x)) (sym (append-nil h.head));
+    items = h.whole;
+    tail = (h.good, h.text);
+    last = λ _. refl;
+  };
+  open_ = refl;
+  gave = h.gave ∙ sym (append-nil _);
+  taken = h.taken;
+  common = h.common;
+  stands = stands-as e.stage (stage.Answering asked) e s h.items _ is (record {
+    request = h.request;
+    head = h.head;
+    is = refl;
+    text = h.buffer;
+    media = h.media;
+    writer = h.writer;
+    asks = h.asks;
+    state = h.state;
+    place = h.place;
+  });
+}
+
+-- all but the head and the count of bytes is as it was
+pub record IsSameHead (e e' : Engine) : Type 0 where
+  pub media : e'.media ≡ e.media
+  pub place : e'.place ≡ e.place
+  pub counts : e'.counts ≡ e.counts
+  pub told : e'.told ≡ e.told
+  pub writer : e'.writer ≡ e.writer
+
+pub common-same : (e e' : Engine) (s : Settings) (items : List Item) (given : List ℕ) → IsSameHead e e' → Common e s items given
+    → Common e' s items given
+common-same e e' s items given same c = record {
+  settings = ap (λ w. w.settings) same.writer ∙ c.settings;
+  place = same.place ∙ c.place;
+  counts = same.counts ∙ c.counts;
+  told = rw same.told c.told;
+}
+
+box-same : (e e' : Engine) → IsSameHead e e' → (box_of e'.writer).bytes ≡ (box_of e.writer).bytes
+box-same e e' same = ap (λ w. (box_of w).bytes) same.writer
+
+-- more of a request head
+pub request-more : (e e' : Engine) (s : Settings) (m given front : List ℕ) → HasOpenRequest e s m given → IsSameHead e e'
+    → e'.head ≡ e.head ++ front → IsOpenHead e'.head → e'.taken ≡ e.taken + length front
+    → HasOpenRequest e' s (m ++ front) given
+request-more e e' s m given front h same head open_ taken = record {
+  items = h.items;
+  head = h.head ++ front;
+  spells = ap (λ x. x ++ front) h.spells ∙ spell_items-append h.items h.head front;
+  whole = h.whole;
+  text = subst (λ (x : List ℕ). IsOpenHead x) (head ∙ ap (λ x. x ++ front) h.buffer) open_;
+  buffer = head ∙ ap (λ x. x ++ front) h.buffer;
+  media = same.media ∙ h.media;
+  writer = rw same.writer h.writer;
+  gave = ap (λ x. given ++ x) (box-same e e' same) ∙ h.gave;
+  taken = omega (arith, taken, h.taken, length-append m front);
+  common = common-same e e' s h.items given same h.common;
+}
+
+pub request-whole : (e e' : Engine) (s : Settings) (m given front : List ℕ) → HasOpenRequest e s m given → IsSameHead e e'
+    → e'.head ≡ e.head ++ front → IsHeadText e'.head → e'.taken ≡ e.taken + length front
+    → HasWholeRequest e' s (m ++ front) given
+request-whole e e' s m given front h same head text taken = record {
+  items = h.items;
+  head = h.head ++ front;
+  spells = ap (λ x. x ++ front) h.spells ∙ spell_items-append h.items h.head front;
+  whole = h.whole;
+  text = subst (λ (x : List ℕ). IsHeadText x) (head ∙ ap (λ x. x ++ front) h.buffer) text;
+  buffer = head ∙ ap (λ x. x ++ front) h.buffer;
+  media = same.media ∙ h.media;
+  writer = rw same.writer h.writer;
+  gave = ap (λ x. given ++ x) (box-same e e' same) ∙ h.gave;
+  taken = omega (arith, taken, h.taken, length-append m front);
+  common = common-same e e' s h.items given same h.common;
+}
+
+pub request-long : (e e' : Engine) (s : Settings) (a : Option (List ℕ)) (k : Option ℕ) (m given front rest : List ℕ)
+    → HasOpenRequest e s m given → IsSameHead e e' → e'.head ≡ e.head ++ front → IsLongHead e'.head → Gains a a k k []
+    → Stops e' s a a k k (m ++ (front ++ rest)) given false (outcome.HeadLimit e.place)
+unfolding stop_of
+request-long e e' s a k m given front rest h same head long none =
+    quiet-stops e e' s a k (m ++ (front ++ rest)) given h.items (cut.LongRequest (h.head ++ front)) rest (outcome.HeadLimit e.place)
+    (record {
+      spells = ap (λ x. x ++ (front ++ rest)) h.spells ∙ spell_items-append h.items h.head (front ++ rest)
+          ∙ ap (spell_items h.items) (sym (append_assoc h.head front rest));
+      items = h.whole;
+      tail = subst (λ (x : List ℕ). IsLongHead x) (head ∙ ap (λ x. x ++ front) h.buffer) long;
+      last = λ never. absurd (cc never);
+    }) refl refl (ap (λ p. ends.HeadLimit p) (sym h.common.place)) none
+    (ap (λ x. given ++ x) (box-same e e' same) ∙ h.gave) (same.counts ∙ h.common.counts) (rw same.told h.common.told)
+
+-- the request head is refused
+pub request-bad : (e e' : Engine) (s : Settings) (a : Option (List ℕ)) (k : Option ℕ) (m given : List ℕ) (kind : BadKind)
+    → HasWholeRequest e s m given → IsSameHead e e' → ReadsRequestHead e.head (Err kind) → Gains a a k k []
+    → Stops e' s a a k k m given false (outcome.Bad kind e.place)
+unfolding stop_of
+request-bad e e' s a k m given kind h same reads none =
+    quiet-stops e e' s a k m given h.items (cut.BadRequest h.head kind) [] (outcome.Bad kind e.place)
+    (record {
+      spells = h.spells ∙ ap (spell_items h.items) (sym (append-nil h.head));
+      items = h.whole;
+      tail = (h.text, subst (λ (x : List ℕ). ReadsRequestHead x (Err kind)) h.buffer reads);
+      last = λ never. absurd (cc never);
+    }) refl refl (ap (λ p. ends.Bad kind p) (sym h.common.place)) none
+    (ap (λ x. given ++ x) (box-same e e' same) ∙ h.gave) (same.counts ∙ h.common.counts) (rw same.told h.common.told)
+
+-- the table of media states is full
+pub request-full : (e e' : Engine) (s : Settings) (a : Option (List ℕ)) (k : Option ℕ) (m given : List ℕ) (asks : RequestHead)
+    → HasWholeRequest e s m given → e'.writer ≡ e.writer → e'.counts ≡ e.counts → e'.told ≡ e.told
+    → ReadsRequestHead e.head (Ok asks) → IsRefusedId e.media (id_of asks) → Gains a a k k []
+    → Stops e' s a a k k m given false (outcome.MediaFull e.place)
+unfolding stop_of
+request-full e e' s a k m given asks h writer counts told reads refused none =
+    let r : Request = record { bytes = h.head; asks = asks } in
+    quiet-stops e e' s a k m given h.items (cut.FullTable r) [] (outcome.MediaFull e.place)
+    (record {
+      spells = h.spells ∙ ap (spell_items h.items) (sym (append-nil h.head));
+      items = h.whole;
+      tail = (record { text = h.text; reads = subst (λ (x : List ℕ). ReadsRequestHead x (Ok asks)) h.buffer reads }, rw (← h.media) refused);
+      last = λ never. absurd (cc never);
+    }) refl refl (ap (λ p. ends.MediaFull p) (sym h.common.place)) none
+    (ap (λ w. given ++ (box_of w).bytes) writer ∙ h.gave) (counts ∙ h.common.counts) (rw told h.common.told)
+
+-- the request is good, and its response comes
+pub request-good : (e e' : Engine) (asked : Asked) (s : Settings) (m given : List ℕ) → HasWholeRequest e s m given
+    → e'.writer ≡ e.writer → e'.counts ≡ e.counts → e'.told ≡ e.told → e'.place ≡ e.place → e'.taken ≡ e.taken
+    → e'.head ≡ [] → ReadsRequestHead e.head (Ok asked.asks) → (IsRefusedId e.media (id_of asked.asks) → ⊥)
+    → asked.state ≡ state_before e.media asked.asks → e'.media ≡ admits e.media (id_of asked.asks) → asked.place ≡ e.taken
+    → HasOpenResponse asked e' s m given
+request-good e e' asked s m given h writer counts told place taken empty reads room state media asked_place = record {
+  items = h.items;
+  request = record { bytes = h.head; asks = asked.asks };
+  head = [];
+  spells = h.spells ∙ ap (spell_items h.items) (sym (append-nil h.head));
+  whole = h.whole;
+  good = record {
+    head = record { text = h.text; reads = subst (λ (x : List ℕ). ReadsRequestHead x (Ok asked.asks)) h.buffer reads };
+    room = λ refused. room (rw h.media refused);
+  };
+  text = empty-open;
+  buffer = empty;
+  media = media ∙ ap (λ t. admits t (id_of asked.asks)) h.media;
+  writer = rw writer h.writer;
+  asks = refl;
+  state = state ∙ ap (λ t. state_before t asked.asks) h.media;
+  place = asked_place ∙ h.taken ∙ ap length h.spells ∙ spell_items-length h.items h.head;
+  gave = ap (λ w. given ++ (box_of w).bytes) writer ∙ h.gave;
+  taken = taken ∙ h.taken;
+  common = record {
+    settings = ap (λ w. w.settings) writer ∙ h.common.settings;
+    place = place ∙ h.common.place;
+    counts = counts ∙ h.common.counts;
+    told = rw told h.common.told;
+  };
+}
+
+-- nothing was pushed
+pub goes-none : (e : Engine) (s : Settings) (a : Option (List ℕ)) (k : Option ℕ) (m given : List ℕ) → Gains a a k k []
+    → Reads e s m given → Goes e s a a k k m given
+goes-none e s a k m given none reads = record {
+  pushed = [];
+  gained = none;
+  reads = subst (λ (x : List ℕ). Reads e s m x) (sym (append-nil given)) reads;
+}
+
+-- a step that took the first bytes of a piece
+pub takes-front : (e : Engine) (s : Settings) (a b : Option (List ℕ)) (k n : Option ℕ) (m given piece : List ℕ) (used : ℕ)
+    → used ≤ length piece → Goes e s a b k n (m ++ take used piece) given → Takes e s a b k n m given piece used
+takes-front e s a b k n m given piece used within goes = record {
+  front = take used piece;
+  rest = drop used piece;
+  is = sym (take-append-drop used piece);
+  size_ = length-take-le used piece within;
+  goes = goes;
+}
+
+stop-closed : (o : EngineOutcome) (stop : End) → IsStop o stop → stop ≡ ends.Open → ⊥
+stop-closed outcome.Done stop is open_ = cc
+stop-closed (outcome.Bad kind at) stop is open_ = cc
+stop-closed (outcome.Cut at) stop is open_ = cc
+stop-closed (outcome.HeadLimit at) stop is open_ = cc
+stop-closed (outcome.MediaFull at) stop is open_ = cc
+stop-closed (outcome.NotBuilt at) stop is open_ = cc
+stop-closed outcome.Endless stop never open_ = never
+stop-closed outcome.ReadFault stop never open_ = never
+stop-closed outcome.WriteFault stop never open_ = never
+
+-- a refusal stands whatever follows it
+pub stops-longer : (o : EngineOutcome) (e : Engine) (s : Settings) (a b : Option (List ℕ)) (k n : Option ℕ) (m more given : List ℕ)
+    → Stops e s a b k n m given false o → Stops e s a b k n (m ++ more) given false o
+stops-longer o e s a b k n m more given stops =
+    let closed = stop-closed o (stop_of s stops.recording false) stops.stop in
+    let (r, cut_, same) = refusal-stands s m more stops.recording stops.cut closed in
+    let (others, are) = items-longer s m more stops.recording r stops.cut cut_ in
+    record {
+      pushed = stops.pushed;
+      gained = stops.gained;
+      recording = r;
+      cut = cut_;
+      stop = subst (λ (x : End). IsStop o x) (sym (same.stop false)) stops.stop;
+      gave = stops.gave ∙ sym (same.output false);
+      counts = stops.counts ∙ ap counts_of (sym (same.rules false));
+      told = record {
+        front = stops.told.front;
+        others = stops.told.others ++ others;
+        are = are ∙ ap (λ t. t ++ others) stops.told.are ∙ append_assoc stops.told.front stops.told.others others;
+        numbers = stops.told.numbers;
+        whole = stops.told.whole;
+      };
+    }
+
+breaks-longer : (e : Engine) (s : Settings) (a b : Option (List ℕ)) (k n : Option ℕ) (m more given : List ℕ)
+    → Breaks e s a b k n m given false → Breaks e s a b k n (m ++ more) given false
+breaks-longer e s a b k n m more given broken = record {
+  pushed = broken.pushed;
+  gained = broken.gained;
+  seen = broken.seen;
+  unseen = broken.unseen ++ more;
+  all = ap (λ t. t ++ more) broken.all ∙ append_assoc broken.seen broken.unseen more;
+  all_seen = λ is. absurd (false≢true is);
+  recording = broken.recording;
+  cut = broken.cut;
+  within = broken.within;
+  told = broken.told;
+}
+
+pub halts-longer : (o : EngineOutcome) (e : Engine) (s : Settings) (a b : Option (List ℕ)) (k n : Option ℕ) (m more given : List ℕ)
+    → Halts o e s a b k n m given false → Halts o e s a b k n (m ++ more) given false
+halts-longer outcome.WriteFault e s a b k n m more given h = breaks-longer e s a b k n m more given h
+halts-longer outcome.Done e s a b k n m more given h = stops-longer outcome.Done e s a b k n m more given h
+halts-longer (outcome.Bad kind at) e s a b k n m more given h = stops-longer (outcome.Bad kind at) e s a b k n m more given h
+halts-longer (outcome.Cut at) e s a b k n m more given h = stops-longer (outcome.Cut at) e s a b k n m more given h
+halts-longer (outcome.HeadLimit at) e s a b k n m more given h = stops-longer (outcome.HeadLimit at) e s a b k n m more given h
+halts-longer (outcome.MediaFull at) e s a b k n m more given h = stops-longer (outcome.MediaFull at) e s a b k n m more given h
+halts-longer (outcome.NotBuilt at) e s a b k n m more given h = stops-longer (outcome.NotBuilt at) e s a b k n m more given h
+halts-longer outcome.Endless e s a b k n m more given h = stops-longer outcome.Endless e s a b k n m more given h
+halts-longer outcome.ReadFault e s a b k n m more given h = stops-longer outcome.ReadFault e s a b k n m more given h
+
+-- the same, behind the first bytes of a piece
+pub halts-piece : (o : EngineOutcome) (e : Engine) (s : Settings) (a b : Option (List ℕ)) (k n : Option ℕ) (m given piece : List ℕ) (used : ℕ)
+    → Halts o e s a b k n (m ++ take used piece) given false → Halts o e s a b k n (m ++ piece) given false
+halts-piece o e s a b k n m given piece used h =
+    subst (λ (x : List ℕ). Halts o e s a b k n x given false)
+    (append_assoc m (take used piece) (drop used piece) ∙ ap (λ t. m ++ t) (take-append-drop used piece))
+    (halts-longer o e s a b k n (m ++ take used piece) (drop used piece) given h)
+
+-- more of a response head
+pub response-more : (asked : Asked) (e e' : Engine) (s : Settings) (m given front : List ℕ) → HasOpenResponse asked e s m given → IsSameHead e e'
+    → e'.head ≡ e.head ++ front → IsOpenHead e'.head → e'.taken ≡ e.taken + length front
+    → HasOpenResponse asked e' s (m ++ front) given
+response-more asked e e' s m given front h same head open_ taken = record {
+  items = h.items;
+  request = h.request;
+  head = h.head ++ front;
+  spells = ap (λ x. x ++ front) h.spells ∙ spell_items-append h.items (h.request.bytes ++ h.head) front
+      ∙ ap (spell_items h.items) (append_assoc h.request.bytes h.head front);
+  whole = h.whole;
+  good = h.good;
+  text = subst (λ (x : List ℕ). IsOpenHead x) (head ∙ ap (λ x. x ++ front) h.buffer) open_;
+  buffer = head ∙ ap (λ x. x ++ front) h.buffer;
+  media = same.media ∙ h.media;
+  writer = rw same.writer h.writer;
+  asks = h.asks;
+  state = h.state;
+  place = h.place;
+  gave = ap (λ x. given ++ x) (box-same e e' same) ∙ h.gave;
+  taken = omega (arith, taken, h.taken, length-append m front);
+  common = common-same e e' s h.items given same h.common;
+}
+
+pub response-whole : (asked : Asked) (e e' : Engine) (s : Settings) (m given front : List ℕ) → HasOpenResponse asked e s m given → IsSameHead e e'
+    → e'.head ≡ e.head ++ front → IsHeadText e'.head → e'.taken ≡ e.taken + length front
+    → HasWholeResponse asked e' s (m ++ front) given
+response-whole asked e e' s m given front h same head text taken = record {
+  items = h.items;
+  request = h.request;
+  head = h.head ++ front;
+  spells = ap (λ x. x ++ front) h.spells ∙ spell_items-append h.items (h.request.bytes ++ h.head) front
+      ∙ ap (spell_items h.items) (append_assoc h.request.bytes h.head front);
+  whole = h.whole;
+  good = h.good;
+  text = subst (λ (x : List ℕ). IsHeadText x) (head ∙ ap (λ x. x ++ front) h.buffer) text;
+  buffer = head ∙ ap (λ x. x ++ front) h.buffer;
+  media = same.media ∙ h.media;
+  writer = rw same.writer h.writer;
+  asks = h.asks;
+  state = h.state;
+  place = h.place;
+  gave = ap (λ x. given ++ x) (box-same e e' same) ∙ h.gave;
+  taken = omega (arith, taken, h.taken, length-append m front);
+  common = common-same e e' s h.items given same h.common;
+}
+
+pub response-long : (asked : Asked) (e e' : Engine) (s : Settings) (a : Option (List ℕ)) (k : Option ℕ) (m given front rest : List ℕ)
+    → HasOpenResponse asked e s m given → IsSameHead e e' → e'.head ≡ e.head ++ front → IsLongHead e'.head → Gains a a k k []
+    → Stops e' s a a k k (m ++ (front ++ rest)) given false (outcome.HeadLimit asked.place)
+unfolding stop_of
+response-long asked e e' s a k m given front rest h same head long none =
+    quiet-stops e e' s a k (m ++ (front ++ rest)) given h.items (cut.LongResponse h.request (h.head ++ front)) rest (outcome.HeadLimit asked.place)
+    (record {
+      spells = ap (λ x. x ++ (front ++ rest)) h.spells ∙ spell_items-append h.items (h.request.bytes ++ h.head) (front ++ rest)
+          ∙ ap (spell_items h.items) (append_assoc h.request.bytes h.head (front ++ rest)
+          ∙ ap (λ t. h.request.bytes ++ t) (sym (append_assoc h.head front rest)));
+      items = h.whole;
+      tail = (h.good, subst (λ (x : List ℕ). IsLongHead x) (head ∙ ap (λ x. x ++ front) h.buffer) long);
+      last = λ never. absurd (cc never);
+    }) refl refl (ap (λ p. ends.HeadLimit p) (sym h.place)) none
+    (ap (λ x. given ++ x) (box-same e e' same) ∙ h.gave) (same.counts ∙ h.common.counts) (rw same.told h.common.told)
+
+-- the response head is refused
+pub response-bad : (asked : Asked) (e e' : Engine) (s : Settings) (a : Option (List ℕ)) (k : Option ℕ) (m given : List ℕ) (kind : BadKind)
+    → HasWholeResponse asked e s m given → IsSameHead e e' → ReadsResponseHead e.head asked.asks.is_head (Err kind) → Gains a a k k []
+    → Stops e' s a a k k m given false (outcome.Bad kind asked.place)
+unfolding stop_of
+response-bad asked e e' s a k m given kind h same reads none =
+    quiet-stops e e' s a k m given h.items (cut.BadResponse h.request h.head kind) [] (outcome.Bad kind asked.place)
+    (record {
+      spells = h.spells ∙ ap (λ x. spell_items h.items (h.request.bytes ++ x)) (sym (append-nil h.head));
+      items = h.whole;
+      tail = (h.good, h.text, rw (← h.buffer, ← h.asks) reads);
+      last = λ never. absurd (cc never);
+    }) refl refl (ap (λ p. ends.Bad kind p) (sym h.place)) none
+    (ap (λ x. given ++ x) (box-same e e' same) ∙ h.gave) (same.counts ∙ h.common.counts) (rw same.told h.common.told)
+
+-- the decider is made for the response as the recording has it
+new-judged : (asked : Asked) (d : Decider) (f : BodyFrame) (c s : Settings) (head : List ℕ) (state : MediaState) (asks : RequestHead)
+    → asked.state ≡ state → asked.asks ≡ asks → c ≡ s → (well : ReadsWell asked c head d f)
+    → DeciderHasRead d (head_of s.policy state asks.opaque (status_code well.tree) (pairs_of well.tree.fields) s.limit well.essence) []
+new-judged asked d f c s head state asks state_is asks_is same well =
+    let P : MediaState → Bool → Settings → Type 0 =
+        λ m o b. DeciderHasRead d (head_of b.policy m o (status_code well.tree) (pairs_of well.tree.fields) b.limit well.essence) [] in
+    subst (λ (b : Settings). P state asks.opaque b) same
+    (subst (λ (o : Bool). P state o c) (ap (λ (q : RequestHead). q.opaque) asks_is)
+    (subst (λ (m : MediaState). P m asked.asks.opaque c) state_is well.new))
+
+-- the response head is good
+pub response-good : (asked : Asked) (d : Decider) (f : BodyFrame) (e e' : Engine) (s : Settings) (m given : List ℕ)
+    → HasWholeResponse asked e s m given → IsSameHead e e' → e'.head ≡ e.head → e'.taken ≡ e.taken
+    → ReadsWell asked e.writer.settings e.head d f → HasReadHeads asked d f e' s m given
+response-good asked d f e e' s m given h same head taken well =
+    let same_settings = h.common.settings in
+    record {
+      whole = record {
+        items = h.items;
+        request = h.request;
+        head = h.head;
+        spells = h.spells;
+        whole = h.whole;
+        good = h.good;
+        text = h.text;
+        buffer = head ∙ h.buffer;
+        media = same.media ∙ h.media;
+        writer = rw same.writer h.writer;
+        asks = h.asks;
+        state = h.state;
+        place = h.place;
+        gave = ap (λ x. given ++ x) (box-same e e' same) ∙ h.gave;
+        taken = taken ∙ h.taken;
+        common = common-same e e' s h.items given same h.common;
+      };
+      response = record {
+        bytes = h.head;
+        status = status_code well.tree;
+        fields = pairs_of well.tree.fields;
+        essence = well.essence;
+        frame = f;
+      };
+      bytes = refl;
+      good = record {
+        text = h.text;
+        tree = well.tree;
+        reads = subst (λ (x : List ℕ). IsResponse x well.tree) h.buffer well.is;
+        status = refl;
+        fields = refl;
+        frame = rw (← h.asks) well.framed;
+        essence = well.states;
+      };
+      frame_is = refl;
+      new = record { reads = new-judged asked d f e.writer.settings s e.head _ h.request.asks h.state h.asks same_settings well; limit = refl };
+    }
+
+-- what a step that took the first bytes of a piece says of them
+pub takes-goes : (e : Engine) (s : Settings) (a b : Option (List ℕ)) (k n : Option ℕ) (m given piece : List ℕ) (used : ℕ)
+    → Takes e s a b k n m given piece used → (used ≤ length piece) × Goes e s a b k n (m ++ take used piece) given
+takes-goes e s a b k n m given piece used t =
+    let front : take used piece ≡ t.front =
+        ap (take used) t.is ∙ ap (λ i. take i (t.front ++ t.rest)) (sym t.size_) ∙ take-append_seam t.front t.rest in
+    (omega (arith, ap length t.is, length-append t.front t.rest, t.size_), subst (λ (x : List ℕ). Goes e s a b k n (m ++ x) given) (sym front) t.goes)

@@ -1,0 +1,227 @@
+-- What the heads of an exchange at the front of some bytes are, which is one thing alone.
+use Rattle.std.proofs.Common.{◌≡◌, ℕ, Bool, true, List, [], ◌∷◌, ◌++◌, Ok, Err, refl, sym, ap, subst, ◌∙◌}
+use Rattle.std.proofs.lemmas.List.{append-nil}
+use Rattle.media_state.specs.Table.{States}
+use Rattle.http_exchange.specs.Reading.{ReadsRequestHead, ReadsResponseHead}
+use Rattle.http_exchange.specs.declared.refusals.BadKind.{BadKind}
+use Rattle.http_exchange.specs.declared.request.RequestHead.{RequestHead}
+use Rattle.orb_engine.specs.declared.settings.Settings.{Settings}
+use Rattle.orb_engine.specs.Texts.{IsOpenHead}
+use Rattle.orb_engine.specs.Heads.{Request, Response, Heads, IsRequestIn, IsRefusedId, IsResponseHead, AreHeads, id_of}
+use Rattle.orb_engine.specs.Recording as cut
+use Rattle.orb_engine.specs.Recording.{Tail, IsTail, spell_heads, spell_tail, is_open}
+use Rattle.orb_engine.proofs.HeadLaws.{Opens, Longs, Stands, view, view-open, view-stands, view-long, ask_once, bad_request_once, ask_or_bad, response_once, bad_response_once, response_or_bad}
+
+-- a request at the front of some bytes
+pub data Ask : Type 0 where
+  AskOpens : Ask
+  AskLong : Ask
+  AskBad : (head : List ℕ) → BadKind → Ask
+  AskFull : Request → Ask
+  Asked : Request → (rest : List ℕ) → Ask
+
+-- a response at the front of some bytes
+pub data Answer : Type 0 where
+  NoAnswer : Answer
+  AnswerOpens : Answer
+  AnswerLong : Answer
+  AnswerBad : (head : List ℕ) → BadKind → Answer
+  Answered : Response → (rest : List ℕ) → Answer
+
+abbrev pub IsAsk : States → List ℕ → Ask → Type 0
+IsAsk table l AskOpens = view l ≡ Opens
+IsAsk table l AskLong = view l ≡ Longs
+IsAsk table l (AskBad head kind) = (rest : List ℕ) × (view l ≡ Stands head rest) × ReadsRequestHead head (Err kind)
+IsAsk table l (AskFull r) =
+    (rest : List ℕ) × (view l ≡ Stands r.bytes rest) × ReadsRequestHead r.bytes (Ok r.asks) × IsRefusedId table (id_of r.asks)
+IsAsk table l (Asked r rest) =
+    (view l ≡ Stands r.bytes rest) × ReadsRequestHead r.bytes (Ok r.asks) × (IsRefusedId table (id_of r.asks) → ⊥)
+
+abbrev pub IsAnswer : (to_head : Bool) → List ℕ → Answer → Type 0
+IsAnswer to_head l NoAnswer = ⊥
+IsAnswer to_head l AnswerOpens = view l ≡ Opens
+IsAnswer to_head l AnswerLong = view l ≡ Longs
+IsAnswer to_head l (AnswerBad head kind) =
+    (rest : List ℕ) × (view l ≡ Stands head rest) × ReadsResponseHead head to_head (Err kind)
+IsAnswer to_head l (Answered r rest) = (view l ≡ Stands r.bytes rest) × IsResponseHead to_head r
+
+-- the response is looked at only behind a good request
+abbrev pub IsBehind : Ask → Answer → Type 0
+IsBehind (Asked r rest) answer = IsAnswer r.asks.is_head rest answer
+IsBehind _ answer = answer ≡ NoAnswer
+
+-- ---- one request
+
+request_by : (r q : Request) → r.bytes ≡ q.bytes → r.asks ≡ q.asks → r ≡ q
+request_by r q p e =
+    same r.bytes q.bytes r.asks q.asks p e
+  where
+    same : (b c : List ℕ) (a d : RequestHead) → b ≡ c → a ≡ d
+        → ◌≡◌ {A = Request} (record { bytes = b; asks = a }) (record { bytes = c; asks = d })
+    same b c a d p e = rw (p, e) refl
+
+same_asks : (r q : Request) → r.bytes ≡ q.bytes → ReadsRequestHead r.bytes (Ok r.asks) → ReadsRequestHead q.bytes (Ok q.asks)
+    → r.asks ≡ q.asks
+same_asks r q same x y =
+    ask_once r.bytes r.asks q.asks x (subst (λ b. ReadsRequestHead b (Ok q.asks)) (sym same) y)
+
+clash_ask : (head : List ℕ) (k : BadKind) (r : Request) → head ≡ r.bytes → ReadsRequestHead head (Err k)
+    → ReadsRequestHead r.bytes (Ok r.asks) → ⊥
+clash_ask head k r same x y = ask_or_bad r.bytes r.asks k y (subst (λ b. ReadsRequestHead b (Err k)) same x)
+
+pub one_ask : (table : States) (l : List ℕ) (a b : Ask) → IsAsk table l a → IsAsk table l b → a ≡ b
+one_ask table l AskOpens AskOpens x y = refl
+one_ask table l AskOpens _ x y = absurd (cc)
+one_ask table l AskLong AskLong x y = refl
+one_ask table l AskLong _ x y = absurd (cc)
+one_ask table l _ AskOpens x y = absurd (cc)
+one_ask table l _ AskLong x y = absurd (cc)
+one_ask table l (AskBad head kind) (AskBad text other) x y =
+    let same : head ≡ text = cc in
+    let kinds : kind ≡ other =
+    bad_request_once head kind other x.2 (subst (λ b. ReadsRequestHead b (Err other)) (sym same) y.2) in cc
+one_ask table l (AskBad head kind) (AskFull q) x y = absurd (clash_ask head kind q (cc) x.2 y.2)
+one_ask table l (AskBad head kind) (Asked q rest) x y = absurd (clash_ask head kind q (cc) x.2 y.1)
+one_ask table l (AskFull r) (AskBad head kind) x y = absurd (clash_ask head kind r (cc) y.2 x.2)
+one_ask table l (AskFull r) (AskFull q) x y =
+    let same : r.bytes ≡ q.bytes = cc in ap AskFull (request_by r q same (same_asks r q same x.2 y.2))
+one_ask table l (AskFull r) (Asked q rest) x y =
+    let same : r.bytes ≡ q.bytes = cc in
+    absurd (y.2 (subst (λ a. IsRefusedId table (id_of a)) (same_asks r q same x.2 y.1) x.3))
+one_ask table l (Asked r rest) (AskBad head kind) x y = absurd (clash_ask head kind r (cc) y.2 x.1)
+one_ask table l (Asked r rest) (AskFull q) x y =
+    let same : q.bytes ≡ r.bytes = cc in
+    absurd (x.2 (subst (λ a. IsRefusedId table (id_of a)) (same_asks q r same y.2 x.1) y.3))
+one_ask table l (Asked r rest) (Asked q others) x y =
+    let same : r.bytes ≡ q.bytes = cc in
+    let behind : rest ≡ others = cc in
+    let request : r ≡ q = request_by r q same (same_asks r q same x.1 y.1) in cc
+
+-- ---- one response
+
+clash_answer : (head : List ℕ) (k : BadKind) (r : Response) (to_head : Bool) → head ≡ r.bytes
+    → ReadsResponseHead head to_head (Err k) → IsResponseHead to_head r → ⊥
+clash_answer head k r to_head same x y =
+    response_or_bad r to_head k y (subst (λ b. ReadsResponseHead b to_head (Err k)) same x)
+
+pub one_answer : (to_head : Bool) (l : List ℕ) (a b : Answer) → IsAnswer to_head l a → IsAnswer to_head l b → a ≡ b
+one_answer to_head l NoAnswer _ x y = absurd x
+one_answer to_head l _ NoAnswer x y = absurd y
+one_answer to_head l AnswerOpens AnswerOpens x y = refl
+one_answer to_head l AnswerOpens _ x y = absurd (cc)
+one_answer to_head l AnswerLong AnswerLong x y = refl
+one_answer to_head l AnswerLong _ x y = absurd (cc)
+one_answer to_head l _ AnswerOpens x y = absurd (cc)
+one_answer to_head l _ AnswerLong x y = absurd (cc)
+one_answer to_head l (AnswerBad head kind) (AnswerBad text other) x y =
+    let same : head ≡ text = cc in
+    let kinds : kind ≡ other =
+    bad_response_once head to_head kind other x.2 (subst (λ b. ReadsResponseHead b to_head (Err other)) (sym same) y.2) in cc
+one_answer to_head l (AnswerBad head kind) (Answered q rest) x y = absurd (clash_answer head kind q to_head (cc) x.2 y.1)
+one_answer to_head l (Answered r rest) (AnswerBad head kind) x y = absurd (clash_answer head kind r to_head (cc) y.2 x.1)
+one_answer to_head l (Answered r rest) (Answered q others) x y =
+    let same : r.bytes ≡ q.bytes = cc in
+    let behind : rest ≡ others = cc in
+    let response : r ≡ q = response_once to_head r q same x.1 y.1 in cc
+
+-- behind one request
+one_behind : (ask : Ask) (a b : Answer) → IsBehind ask a → IsBehind ask b → a ≡ b
+one_behind AskOpens a b x y = x ∙ sym y
+one_behind AskLong a b x y = x ∙ sym y
+one_behind (AskBad head kind) a b x y = x ∙ sym y
+one_behind (AskFull r) a b x y = x ∙ sym y
+one_behind (Asked r rest) a b x y = one_answer r.asks.is_head rest a b x y
+
+-- ---- both
+
+pub record IsStart (table : States) (l : List ℕ) (ask : Ask) (answer : Answer) : Type 0 where
+  pub asks : IsAsk table l ask
+  pub answers : IsBehind ask answer
+
+pub one_start : (table : States) (l : List ℕ) (a b : Ask) (x y : Answer) → IsStart table l a x → IsStart table l b y
+    → (a ≡ b) × (x ≡ y)
+one_start table l a b x y p q =
+    let asks : a ≡ b = one_ask table l a b p.asks q.asks in
+    (asks, one_behind a x y p.answers (subst (λ k. IsBehind k y) (sym asks) q.answers))
+
+-- ---- of a tail
+
+abbrev pub ask_of : Tail → (more : List ℕ) → Ask
+ask_of (cut.Asking head) more = AskOpens
+ask_of (cut.Answering r head) more = Asked r (head ++ more)
+ask_of (cut.Sending h sent body) more = Asked h.request (h.response.bytes ++ (sent ++ more))
+ask_of (cut.LongRequest head) more = AskLong
+ask_of (cut.BadRequest head kind) more = AskBad head kind
+ask_of (cut.FullTable r) more = AskFull r
+ask_of (cut.LongResponse r head) more = Asked r (head ++ more)
+ask_of (cut.BadResponse r head kind) more = Asked r (head ++ more)
+ask_of (cut.BadBody h sent body b) more = Asked h.request (h.response.bytes ++ (sent ++ (b ∷ more)))
+ask_of (cut.Undecided h sent body) more = Asked h.request (h.response.bytes ++ (sent ++ more))
+
+abbrev pub answer_of : Tail → (more : List ℕ) → Answer
+answer_of (cut.Asking head) more = NoAnswer
+answer_of (cut.Answering r head) more = AnswerOpens
+answer_of (cut.Sending h sent body) more = Answered h.response (sent ++ more)
+answer_of (cut.LongRequest head) more = NoAnswer
+answer_of (cut.BadRequest head kind) more = NoAnswer
+answer_of (cut.FullTable r) more = NoAnswer
+answer_of (cut.LongResponse r head) more = AnswerLong
+answer_of (cut.BadResponse r head kind) more = AnswerBad head kind
+answer_of (cut.BadBody h sent body b) more = Answered h.response (sent ++ (b ∷ more))
+answer_of (cut.Undecided h sent body) more = Answered h.response (sent ++ more)
+
+asked : (table : States) (r : Request) (rest : List ℕ) → IsRequestIn table r → IsAsk table (r.bytes ++ rest) (Asked r rest)
+asked table r rest h = (view-stands r.bytes rest h.head.text, h.head.reads, h.room)
+
+pub start_of_heads : (table : States) (h : Heads) (rest : List ℕ) → AreHeads table h
+    → IsStart table (spell_heads h rest) (Asked h.request (h.response.bytes ++ rest)) (Answered h.response rest)
+start_of_heads table h rest are = record {
+  asks = asked table h.request (h.response.bytes ++ rest) are.request;
+  answers = (view-stands h.response.bytes rest are.response.text, are.response);
+}
+
+-- an open head, of which nothing follows
+opens : (head more : List ℕ) → more ≡ [] → IsOpenHead head → view (head ++ more) ≡ Opens
+opens head more none h = ap view (ap (λ l. head ++ l) none ∙ append-nil head) ∙ view-open head h
+
+pub start_of_tail : (s : Settings) (table : States) (t : Tail) (more : List ℕ) → IsTail s table t
+    → (is_open t ≡ true → more ≡ []) → IsStart table (spell_tail t more) (ask_of t more) (answer_of t more)
+start_of_tail s table (cut.Asking head) more h last = record { asks = opens head more (last refl) h; answers = refl }
+start_of_tail s table (cut.Answering r head) more h last = record {
+  asks = asked table r (head ++ more) h.0;
+  answers = opens head more (last refl) h.1;
+}
+start_of_tail s table (cut.Sending g sent body) more h last = start_of_heads table g (sent ++ more) h.heads
+start_of_tail s table (cut.LongRequest head) more h last = record { asks = view-long head more h; answers = refl }
+start_of_tail s table (cut.BadRequest head kind) more h last = record {
+  asks = (more, view-stands head more h.0, h.1);
+  answers = refl;
+}
+start_of_tail s table (cut.FullTable r) more h last = record {
+  asks = (more, view-stands r.bytes more h.0.text, h.0.reads, h.1);
+  answers = refl;
+}
+start_of_tail s table (cut.LongResponse r head) more h last = record {
+  asks = asked table r (head ++ more) h.0;
+  answers = view-long head more h.1;
+}
+start_of_tail s table (cut.BadResponse r head kind) more h last = record {
+  asks = asked table r (head ++ more) h.0;
+  answers = (more, view-stands head more h.1, h.2);
+}
+start_of_tail s table (cut.BadBody g sent body b) more h last = start_of_heads table g (sent ++ (b ∷ more)) h.sending.heads
+start_of_tail s table (cut.Undecided g sent body) more h last = start_of_heads table g (sent ++ more) h.heads
+
+-- ---- two good heads
+
+pub same_heads : (h k : Heads) (a b m n : List ℕ) → Asked h.request a ≡ Asked k.request b
+    → Answered h.response m ≡ Answered k.response n → (h ≡ k) × (m ≡ n)
+same_heads h k a b m n asks answers =
+    let first : h.request ≡ k.request = cc in
+    let second : h.response ≡ k.response = cc in
+    let rests : m ≡ n = cc in
+    (both h.request k.request h.response k.response first second, rests)
+  where
+    both : (r q : Request) (p o : Response) → r ≡ q → p ≡ o
+        → ◌≡◌ {A = Heads} (record { request = r; response = p }) (record { request = q; response = o })
+    both r q p o e d = rw (e, d) refl

@@ -1,0 +1,224 @@
+-- Steps, one behind the other, and what a fault leaves.
+use Rattle.std.proofs.Common.{◌≡◌, ◌⊎◌, ℕ, zero, suc, ◌+◌, ◌≤◌, Bool, true, false, List, [], ◌∷◌, ◌++◌, length, Option, None, Some, Result, Ok, Err, refl, sym, ap, subst, ◌∙◌, inl, inr, arith, append_assoc, length-append}
+use Rattle.std.specs.FinMap as map
+use Rattle.std.proofs.lemmas.List.{append-nil}
+use Rattle.std.proofs.lemmas.Bool.{false≢true}
+use Rattle.orb_io.specs.Told.{Gains, IsPrefix}
+use Rattle.orb_io.proofs.ToldLemmas.{Gains-twice, IsPrefix-all, IsPrefix-trans, IsPrefix-behind, IsPrefix-append}
+use Rattle.response_rules.specs.declared.rules.Rule.{Rule}
+use Rattle.response_rules.specs.Tables.{window_rule_of}
+use Rattle.response_rules.specs.Settled.{is_in_text}
+use Rattle.http_exchange.specs.Marks.{Mark, Frame, Content, bytes_of, content_of}
+use Rattle.http_exchange.specs.Places.{is_end}
+use Rattle.http_exchange.specs.Frames.{IsFront, IsWhole}
+use Rattle.http_exchange.specs.Reads.{StandsAt}
+use Rattle.http_exchange.specs.Reads.{HasRead as UnframerHasRead}
+use Rattle.http_exchange.specs.declared.frames.BodyFrame.{BodyFrame}
+use Rattle.http_exchange.specs.declared.frames.BodyFrame.TheVariants as frame
+use Rattle.http_exchange.specs.declared.unframing.Reading.{Reading}
+use Rattle.http_exchange.specs.declared.unframing.Reading.TheVariants.{Counted, Chunks, Rest}
+use Rattle.http_exchange.specs.declared.unframing.Unframer.{Unframer}
+use Rattle.http_exchange.proofs.UnframerLemmas.{whole_read}
+use Rattle.orb_engine.specs.declared.settings.Settings.{Settings}
+use Rattle.orb_engine.specs.declared.engine.Engine.{Engine}
+use Rattle.orb_engine.specs.declared.outcome.EngineOutcome.{EngineOutcome}
+use Rattle.orb_engine.specs.declared.outcome.EngineOutcome.TheVariants as outcome
+use Rattle.orb_engine.specs.Heads.{Heads, AreHeads, exchange_of, judged_by}
+use Rattle.orb_engine.specs.Recording as cut
+use Rattle.orb_engine.specs.Recording.{Item, Recording, AreItems, IsRecording, spell_heads, spell_items}
+use Rattle.orb_engine.specs.Outputs.{output_of, written_items, written_front}
+use Rattle.orb_engine.specs.Writing.{box_of}
+use Rattle.orb_engine.specs.Reads.{open_cut, table_of, IsTold, Reads, Stops, Breaks, Goes, Halts, Settles}
+use Rattle.orb_engine.proofs.CutLemmas.{spell_items-snoc, items-snoc}
+use Rattle.orb_engine.proofs.OutputLaws.{written_front-undecided}
+use Rattle.orb_engine.proofs.BodyLaws.{text-rule}
+use Rattle.orb_engine.proofs.ClosingLemmas.{front-in-whole}
+use Rattle.orb_engine.proofs.FillLemmas.{empty-open, output-undecided, output-sending, closed-written}
+
+-- content is no longer than the bytes in which it is sent
+content-short : (k : List Mark) → length (content_of k) ≤ length (bytes_of k)
+content-short [] = omega arith
+content-short (Frame b ∷ k) = let rest = content-short k in omega arith
+content-short (Content b ∷ k) = let rest = content-short k in omega arith
+
+pub front-short : (f : BodyFrame) (m g : List ℕ) → IsFront f m g → length g ≤ length m
+front-short frame.Empty m g h = omega (arith, ap length h.1)
+front-short (frame.Length n) m g h = omega (arith, ap length h.1)
+front-short frame.Chunked m g h = rw (← h.reads, ← h.gives) (content-short h.front)
+front-short frame.ToEnd m g h = omega (arith, ap length h)
+
+-- whether a body is whole is known where an unframer has read it
+pub whole-or-not : (u : Reading) (f : BodyFrame) (m g : List ℕ) → StandsAt u f m g → IsWhole f m ⊎ (IsWhole f m → ⊥)
+whole-or-not (Counted left) frame.Empty m g h = inl h.1
+whole-or-not (Counted zero) (frame.Length n) m g h = inl (omega (arith, h.0))
+whole-or-not (Counted (suc left)) (frame.Length n) m g h = inr (λ whole. absurd (omega (arith, h.0, whole)))
+whole-or-not (Counted left) frame.Chunked m g h = absurd h
+whole-or-not (Counted left) frame.ToEnd m g h = absurd h
+whole-or-not (Chunks p) frame.Chunked m g h = by (is_end p) refl
+  where
+    by : (b : Bool) → is_end p ≡ b → IsWhole frame.Chunked m ⊎ (IsWhole frame.Chunked m → ⊥)
+    by true is = inl ((whole_read p frame.Chunked m g h).0 is)
+    by false is = inr (λ whole. false≢true (sym is ∙ (whole_read p frame.Chunked m g h).1 whole))
+whole-or-not (Chunks p) frame.Empty m g h = absurd h
+whole-or-not (Chunks p) (frame.Length n) m g h = absurd h
+whole-or-not (Chunks p) frame.ToEnd m g h = absurd h
+whole-or-not Rest frame.ToEnd m g h = inr (λ never. never)
+whole-or-not Rest frame.Empty m g h = absurd h
+whole-or-not Rest (frame.Length n) m g h = absurd h
+whole-or-not Rest frame.Chunked m g h = absurd h
+
+-- a recording of the bytes up to those of a body that have come, whose output begins with what is written of these
+pub record IsSeen (s : Settings) (m : List ℕ) (items : List Item) (wrote : List ℕ) : Type 0 where
+  pub recording : Recording
+  pub cut : IsRecording s m recording
+  pub within : IsPrefix wrote (output_of s recording false)
+  pub others : List Item
+  pub are : recording.items ≡ items ++ others
+
+pub seen-body : (s : Settings) (m : List ℕ) (items : List Item) (h : Heads) (sent body : List ℕ) (u : Unframer)
+    → m ≡ spell_items items (spell_heads h sent) → AreItems s map.empty items → AreHeads (table_of items) h
+    → IsFront h.response.frame sent body → UnframerHasRead u h.response.frame sent body
+    → IsSeen s m items (written_items s map.empty 0 items ++ written_front s.job (exchange_of s (table_of items) h) body)
+seen-body s m items h sent body u spells whole good front reads =
+    elim (whole-or-not u h.response.frame sent body reads.stands) [
+      inl ended ↦ by_rule (window_rule_of (judged_by s (table_of items) h) body) refl ended
+      | inr unfinished ↦ by_text (is_in_text (judged_by s (table_of items) h) body) refl unfinished
+    ]
+  where
+
+    spelled : m ≡ spell_items items (spell_heads h (sent ++ []))
+    spelled = spells ∙ ap (λ t. spell_items items (spell_heads h t)) (sym (append-nil sent))
+    undecided : cut.IsUndecided s (table_of items) h sent body → window_rule_of (judged_by s (table_of items) h) body ≡ None
+        → IsSeen s m items (written_items s map.empty 0 items ++ written_front s.job (exchange_of s (table_of items) h) body)
+    undecided tail none = record {
+      recording = record { items = items; tail = cut.Undecided h sent body; more = [] };
+      cut = record { spells = spelled; items = whole; tail = tail; last = λ _. refl };
+      within = ([], sym (append-nil _ ∙ ap (λ t. written_items s map.empty 0 items ++ t)
+      (written_front-undecided s.job (exchange_of s (table_of items) h) body []
+      (ap (window_rule_of (judged_by s (table_of items) h)) (append-nil body) ∙ none))
+      ∙ append-nil _ ∙ sym (output-undecided s items h sent body [] false)));
+      others = [];
+      are = sym (append-nil items);
+    }
+    by_rule : (o : Option Rule) → window_rule_of (judged_by s (table_of items) h) body ≡ o → IsWhole h.response.frame sent
+        → IsSeen s m items (written_items s map.empty 0 items ++ written_front s.job (exchange_of s (table_of items) h) body)
+    by_rule None is ended = undecided (record { heads = good; front = front; undecided = inr (ended, is) }) is
+    by_rule (Some r) is ended =
+        let i : Item = record { heads = h; sent = sent; body = body; rule = r } in
+        record {
+          recording = open_cut (items ++ (i ∷ [])) (cut.Asking []);
+          cut = record {
+            spells = spelled ∙ sym (spell_items-snoc items i []);
+            items = items-snoc s map.empty items i whole (record { heads = good; front = front; whole = ended; decided = is });
+            tail = empty-open;
+            last = λ _. refl;
+          };
+          within = subst (λ (t : List ℕ). IsPrefix (written_items s map.empty 0 items ++ written_front s.job (exchange_of s (table_of items) h) body) t)
+              (closed-written s items i)
+              (IsPrefix-behind (written_items s map.empty 0 items) _ _ (front-in-whole s.job (length items + 1) (exchange_of s (table_of items) h) body));
+          others = i ∷ [];
+          are = refl;
+        }
+    by_text : (b : Bool) → is_in_text (judged_by s (table_of items) h) body ≡ b → (IsWhole h.response.frame sent → ⊥)
+        → IsSeen s m items (written_items s map.empty 0 items ++ written_front s.job (exchange_of s (table_of items) h) body)
+    by_text true is unfinished =
+        undecided (record { heads = good; front = front; undecided = inl is }) (text-rule (judged_by s (table_of items) h) body is)
+    by_text false is unfinished = record {
+      recording = open_cut items (cut.Sending h sent body);
+      cut = record {
+        spells = spelled;
+        items = whole;
+        tail = record { heads = good; front = front; unfinished = unfinished; undecided = is };
+        last = λ _. refl;
+      };
+      within = subst (λ (t : List ℕ). IsPrefix t (output_of s (open_cut items (cut.Sending h sent body)) false))
+          (output-sending s items h sent body [])
+          (IsPrefix-all _);
+      others = [];
+      are = sym (append-nil items);
+    }
+
+-- a fault while a body was written
+pub breaks-body : (e : Engine) (s : Settings) (a b : Option (List ℕ)) (k n : Option ℕ) (m given pushed : List ℕ)
+    (items : List Item) (wrote : List ℕ) → Gains a b k n pushed → IsTold e.told s items given
+    → IsPrefix (given ++ pushed) wrote → IsSeen s m items wrote → Breaks e s a b k n m given false
+breaks-body e s a b k n m given pushed items wrote gained told within seen = record {
+  pushed = pushed;
+  gained = gained;
+  seen = m;
+  unseen = [];
+  all = sym (append-nil m);
+  all_seen = λ _. refl;
+  recording = seen.recording;
+  cut = seen.cut;
+  within = IsPrefix-trans _ wrote _ within seen.within;
+  told = record {
+    front = told.front;
+    others = told.others ++ seen.others;
+    are = seen.are ∙ ap (λ t. t ++ seen.others) told.are ∙ append_assoc told.front told.others seen.others;
+    numbers = told.numbers;
+    whole = IsPrefix-trans _ given _ told.whole (IsPrefix-append given pushed);
+  };
+}
+
+-- behind what was pushed in the same call
+pub goes-behind : (e : Engine) (s : Settings) (a b c : Option (List ℕ)) (j k n : Option ℕ) (m given pushed : List ℕ)
+    → Gains a b j k pushed → Goes e s b c k n m (given ++ pushed) → Goes e s a c j n m given
+goes-behind e s a b c j k n m given pushed gained goes = record {
+  pushed = pushed ++ goes.pushed;
+  gained = Gains-twice a b c j k n pushed goes.pushed gained goes.gained;
+  reads = subst (λ (t : List ℕ). Reads e s m t) (append_assoc given pushed goes.pushed) goes.reads;
+}
+
+stops-behind : (e : Engine) (s : Settings) (a b c : Option (List ℕ)) (j k n : Option ℕ) (m given pushed : List ℕ) (ended : Bool) (o : EngineOutcome)
+    → Gains a b j k pushed → Stops e s b c k n m (given ++ pushed) ended o → Stops e s a c j n m given ended o
+stops-behind e s a b c j k n m given pushed ended o gained stops = record {
+  pushed = pushed ++ stops.pushed;
+  gained = Gains-twice a b c j k n pushed stops.pushed gained stops.gained;
+  recording = stops.recording;
+  cut = stops.cut;
+  stop = stops.stop;
+  gave = ap (λ t. t ++ (box_of e.writer).bytes) (sym (append_assoc given pushed stops.pushed)) ∙ stops.gave;
+  counts = stops.counts;
+  told = subst (λ (t : List ℕ). IsTold e.told s stops.recording.items t) (append_assoc given pushed stops.pushed) stops.told;
+}
+
+breaks-behind : (e : Engine) (s : Settings) (a b c : Option (List ℕ)) (j k n : Option ℕ) (m given pushed : List ℕ) (ended : Bool)
+    → Gains a b j k pushed → Breaks e s b c k n m (given ++ pushed) ended → Breaks e s a c j n m given ended
+breaks-behind e s a b c j k n m given pushed ended gained broken = record {
+  pushed = pushed ++ broken.pushed;
+  gained = Gains-twice a b c j k n pushed broken.pushed gained broken.gained;
+  seen = broken.seen;
+  unseen = broken.unseen;
+  all = broken.all;
+  all_seen = broken.all_seen;
+  recording = broken.recording;
+  cut = broken.cut;
+  within = subst (λ (t : List ℕ). IsPrefix t (output_of s broken.recording ended)) (append_assoc given pushed broken.pushed) broken.within;
+  told = subst (λ (t : List ℕ). IsTold e.told s broken.recording.items t) (append_assoc given pushed broken.pushed) broken.told;
+}
+
+pub halts-behind : (o : EngineOutcome) (e : Engine) (s : Settings) (a b c : Option (List ℕ)) (j k n : Option ℕ) (m given pushed : List ℕ) (ended : Bool)
+    → Gains a b j k pushed → Halts o e s b c k n m (given ++ pushed) ended → Halts o e s a c j n m given ended
+halts-behind outcome.WriteFault e s a b c j k n m given pushed ended gained h = breaks-behind e s a b c j k n m given pushed ended gained h
+halts-behind outcome.Done e s a b c j k n m given pushed ended gained h = stops-behind e s a b c j k n m given pushed ended outcome.Done gained h
+halts-behind (outcome.Bad kind at) e s a b c j k n m given pushed ended gained h = stops-behind e s a b c j k n m given pushed ended (outcome.Bad kind at) gained h
+halts-behind (outcome.Cut at) e s a b c j k n m given pushed ended gained h = stops-behind e s a b c j k n m given pushed ended (outcome.Cut at) gained h
+halts-behind (outcome.HeadLimit at) e s a b c j k n m given pushed ended gained h = stops-behind e s a b c j k n m given pushed ended (outcome.HeadLimit at) gained h
+halts-behind (outcome.MediaFull at) e s a b c j k n m given pushed ended gained h = stops-behind e s a b c j k n m given pushed ended (outcome.MediaFull at) gained h
+halts-behind (outcome.NotBuilt at) e s a b c j k n m given pushed ended gained h = stops-behind e s a b c j k n m given pushed ended (outcome.NotBuilt at) gained h
+halts-behind outcome.Endless e s a b c j k n m given pushed ended gained h = stops-behind e s a b c j k n m given pushed ended outcome.Endless gained h
+halts-behind outcome.ReadFault e s a b c j k n m given pushed ended gained h = stops-behind e s a b c j k n m given pushed ended outcome.ReadFault gained h
+
+pub settles-behind : (r : Result (Unit {0}) EngineOutcome) (e : Engine) (s : Settings) (a b c : Option (List ℕ)) (j k n : Option ℕ) (m given pushed : List ℕ)
+    → Gains a b j k pushed → Settles r e s b c k n m (given ++ pushed) → Settles r e s a c j n m given
+settles-behind (Ok done) e s a b c j k n m given pushed gained h = goes-behind e s a b c j k n m given pushed gained h
+settles-behind (Err o) e s a b c j k n m given pushed gained h = halts-behind o e s a b c j k n m given pushed false gained h
+
+pub goes-at : (e : Engine) (s : Settings) (a b : Option (List ℕ)) (k n : Option ℕ) (m m' given : List ℕ) → m ≡ m'
+    → Goes e s a b k n m given → Goes e s a b k n m' given
+goes-at e s a b k n m m' given same h = subst (λ (x : List ℕ). Goes e s a b k n x given) same h
+
+pub halts-at : (o : EngineOutcome) (e : Engine) (s : Settings) (a b : Option (List ℕ)) (k n : Option ℕ) (m m' given : List ℕ) (ended : Bool) → m ≡ m'
+    → Halts o e s a b k n m given ended → Halts o e s a b k n m' given ended
+halts-at o e s a b k n m m' given ended same h = subst (λ (x : List ℕ). Halts o e s a b k n x given ended) same h

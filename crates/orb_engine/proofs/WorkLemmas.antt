@@ -1,0 +1,190 @@
+-- What the two jobs put of one exchange.
+use Rattle.std.proofs.Common.{◌≡◌, ℕ, ◌+◌, ◌*◌, ◌^◌, ◌≤◌, ◌<◌, Bool, true, false, List, [], ◌++◌, length, length-append, lit≤, Option, Some, None, Result, Ok, Err, refl, sym, ap, subst, ◌∙◌, arith}
+use Rattle.body_filter.proofs.LawLemmas.{front-length, output-length}
+use Rattle.std.specs.Result.{OnOk, OnErr, IfOk}
+use Rattle.std.proofs.lemmas.List.{append-nil}
+use Rattle.orb_io.specs.Told.{Gains, GainsPrefix}
+use Rattle.response_rules.specs.declared.deciding.Decider.{Decider}
+use Rattle.response_rules.specs.declared.verdicts.Verdict.{Verdict}
+use Rattle.response_rules.specs.Tables.{window_rule_of}
+use Rattle.response_rules.specs.Reads.{HasRead as DeciderHasRead, IsVerdict}
+use Rattle.body_filter.specs.Exchanges.{Exchange, front_of, whole_of}
+use Rattle.body_filter.specs.Puts.{Makes, Falls}
+use Rattle.body_filter.specs.Reads.{HasRead as FilterHasRead, Feeds, limit_of}
+use Rattle.body_filter.specs.declared.filtering.Filter.{Filter}
+use Rattle.body_filter.specs.declared.pushing.WriteFault.{WriteFault}
+use Rattle.orb_engine.specs.declared.settings.Settings.{Settings}
+use Rattle.orb_engine.specs.declared.settings.Job.{Job}
+use Rattle.orb_engine.specs.declared.settings.Job.TheVariants as job
+use Rattle.orb_engine.specs.declared.worker.Worker.{Worker}
+use Rattle.orb_engine.specs.declared.worker.Worker.TheVariants as worker
+use Rattle.std.specs.Prelude.{nat_le, is_none}
+use Rattle.std.proofs.lemmas.Bool.Decides.{nat_tests}
+use Rattle.std.proofs.lemmas.Fmt.{length-decimal-le}
+use Rattle.media_state.specs.declared.states.MediaState.{MediaState}
+use Rattle.media_state.specs.declared.states.MediaState.TheVariants as state
+use Rattle.response_rules.specs.declared.rules.Rule.{Rule}
+use Rattle.response_rules.specs.Rules.{is_allowing, state_behind}
+use Rattle.response_rules.specs.Heads.{Head}
+use Rattle.response_rules.specs.Tables.{window_size}
+use Rattle.response_rules.specs.Settled.{is_in_text}
+use Rattle.orb_engine.proofs.NameLemmas.{name-short}
+use Rattle.orb_engine.specs.Outputs.{state_name, verdict_name, line_of, line_by, written_front, written_whole}
+use Rattle.orb_engine.specs.Workers.{IsWorkerFor, WorkerReads, Works, Puts}
+
+pub front-filter : (j : Job) (x : Exchange) (m : List ℕ) → j ≡ job.Filter → written_front j x m ≡ front_of x m
+unfolding written_front
+front-filter j x m is = rw is refl
+
+pub front-explain : (j : Job) (x : Exchange) (m : List ℕ) → j ≡ job.Explain → written_front j x m ≡ []
+unfolding written_front
+front-explain j x m is = rw is refl
+
+pub whole-filter : (j : Job) (n : ℕ) (x : Exchange) (m : List ℕ) → j ≡ job.Filter → written_whole j n x m ≡ whole_of x m
+unfolding written_whole
+whole-filter j n x m is = rw is refl
+
+pub whole-explain : (j : Job) (n : ℕ) (x : Exchange) (m : List ℕ) → j ≡ job.Explain
+    → written_whole j n x m ≡ line_by n x (length m) (window_rule_of x.head m)
+unfolding written_whole
+whole-explain j n x m is = rw is refl
+
+-- the worker is a filter
+pub for-filter : (w : Worker) (f : Filter) (s : Settings) → w ≡ worker.Filters f → IsWorkerFor w s
+    → (s.job ≡ job.Filter) × (limit_of f ≡ s.limit)
+for-filter w f s is h = subst (λ (v : Worker). IsWorkerFor v s) is h
+
+pub reads-filter : (w : Worker) (f : Filter) (x : Exchange) (m : List ℕ) → w ≡ worker.Filters f → WorkerReads w x m
+    → (given : List ℕ) × FilterHasRead f x m given
+reads-filter w f x m is h = subst (λ (v : Worker). WorkerReads v x m) is h
+
+-- the worker explains
+pub for-explain : (w : Worker) (d : Option Decider) (s : Settings) → w ≡ worker.Explains d → IsWorkerFor w s
+    → s.job ≡ job.Explain
+for-explain w d s is h = subst (λ (v : Worker). IsWorkerFor v s) is h
+
+pub reads-explain : (w : Worker) (d : Decider) (x : Exchange) (m : List ℕ) → w ≡ worker.Explains (Some d)
+    → WorkerReads w x m → DeciderHasRead d x.head m
+reads-explain w d x m is h = subst (λ (v : Worker). WorkerReads v x m) is h
+
+-- what a filter put is what is written
+pub filter-feeds : {T : Type 0} (r : Result T WriteFault) (f : Filter) (a b : Option (List ℕ)) (k n : Option ℕ)
+    (s : Settings) (x : Exchange) (m given : List ℕ) → (s.job ≡ job.Filter) × (limit_of f ≡ s.limit)
+    → OnOk r (Feeds f a b k n x m given) → OnErr r (Falls a b k n given (front_of x m))
+    → Puts r a b k n given (written_front s.job x m) (λ _. Works (worker.Filters f) s x m)
+filter-feeds (Ok v) f a b k n s x m given is_for ok err =
+    (record {
+      more = ok.more;
+      gained = ok.gained;
+      is = ok.reads.gave ∙ sym (front-filter s.job x m is_for.0);
+    }, record { is_for = is_for; reads = (given ++ ok.more, ok.reads) })
+filter-feeds (Err e) f a b k n s x m given is_for ok err =
+    rw (front-filter s.job x m is_for.0) err
+
+pub filter-ends : (r : Result Verdict WriteFault) (a b : Option (List ℕ)) (k n : Option ℕ) (number : ℕ)
+    (s : Settings) (x : Exchange) (m given : List ℕ) → s.job ≡ job.Filter
+    → IfOk r (λ _. Makes a b k n given (whole_of x m)) → IfOk r (λ v. IsVerdict x.head m v)
+    → OnErr r (Falls a b k n given (whole_of x m))
+    → Puts r a b k n given (written_whole s.job number x m) (λ v. IsVerdict x.head m v)
+filter-ends (Ok v) a b k n number s x m given is makes verdict err =
+    (rw (whole-filter s.job number x m is) makes, verdict)
+filter-ends (Err e) a b k n number s x m given is makes verdict err =
+    rw (whole-filter s.job number x m is) err
+
+-- nothing was put, and nothing is owed
+pub makes-none : (a : Option (List ℕ)) (k : Option ℕ) (given owed : List ℕ) → Gains a a k k [] → given ≡ owed
+    → Makes a a k k given owed
+makes-none a k given owed gained is = record { more = []; gained = gained; is = append-nil given ∙ is }
+
+-- the line that is owed
+pub line-owed : (number : ℕ) (x : Exchange) (m : List ℕ) (v : Verdict) → IsVerdict x.head m v
+    → line_by number x (length m) (window_rule_of x.head m) ≡ line_of number v.rule v.state (length m)
+line-owed number x m v is = rw (is.rule, is.state) refl
+
+pub line-written : (number size : ℕ) (s : Settings) (x : Exchange) (m : List ℕ) (v : Verdict) (line : List ℕ)
+    → s.job ≡ job.Explain → IsVerdict x.head m v → size ≡ length m → line ≡ line_of number v.rule v.state size
+    → line ≡ written_whole s.job number x m
+line-written number size s x m v line is verdict sized line_is =
+    line_is ∙ ap (line_of number v.rule v.state) sized
+    ∙ sym (whole-explain s.job number x m is ∙ line-owed number x m v verdict)
+
+-- the line was put, or a front of it
+pub line-put : (a b : Option (List ℕ)) (k n : Option ℕ) (given line owed : List ℕ) → given ≡ [] → line ≡ owed
+    → Gains a b k n line → Makes a b k n given owed
+line-put a b k n given line owed none is gained = record {
+  more = line;
+  gained = gained;
+  is = ap (λ t. t ++ line) none ∙ is;
+}
+
+pub line-broken : (a b : Option (List ℕ)) (k n : Option ℕ) (given line owed : List ℕ) → given ≡ [] → line ≡ owed
+    → GainsPrefix a b k n line → Falls a b k n given owed
+line-broken a b k n given line owed none is gained = record {
+  more = gained.0;
+  gained = gained.2;
+  within = (gained.1.0, sym is ∙ gained.1.1 ∙ ap (λ t. (t ++ gained.0) ++ gained.1.0) (sym none));
+}
+
+-- how much can be put
+pub front-most : (j : Job) (x : Exchange) (m : List ℕ) → length (written_front j x m) ≤ length x.bytes + 2 * length m + 128
+front-most j x m = by j refl
+  where
+    by : (i : Job) → j ≡ i → length (written_front j x m) ≤ length x.bytes + 2 * length m + 128
+    by job.Filter is = omega (arith, ap length (front-filter j x m is), front-length x m)
+    by job.Explain is = omega (arith, ap length (front-explain j x m is))
+
+pub front-none : (j : Job) (x : Exchange) → length (written_front j x []) ≤ length x.bytes
+front-none j x = by j refl
+  where
+    by : (i : Job) → j ≡ i → length (written_front j x []) ≤ length x.bytes
+    by job.Filter is = omega (arith, ap length (front-filter j x [] is), front-length x [])
+    by job.Explain is = omega (arith, ap length (front-explain j x [] is))
+
+state-short : (t : MediaState) → length (state_name t) ≤ 10
+state-short state.Na = lit≤ tt
+state-short state.Initial = lit≤ tt
+state-short state.Subsequent = lit≤ tt
+
+verdict-short : (b : Bool) → length (verdict_name b) ≤ 5
+verdict-short true = lit≤ tt
+verdict-short false = lit≤ tt
+
+line-short : (number size : ℕ) (r : Rule) (t : MediaState) → number < 2 ^ 64 → size < 2 ^ 64 → length (line_of number r t size) ≤ 128
+unfolding line_of
+line-short number size r t number_fits size_fits =
+    let a = length-decimal-le 20 number (omega arith) (omega arith) number_fits in
+    let b = length-decimal-le 20 size (omega arith) (omega arith) size_fits in
+    let v = verdict-short (is_allowing r) in
+    let n = name-short r in
+    let k = state-short t in
+    simp length-append (omega arith)
+
+line-by-short : (number size : ℕ) (x : Exchange) (o : Option Rule) → number < 2 ^ 64 → size < 2 ^ 64
+    → length (line_by number x size o) ≤ 128
+line-by-short number size x None number_fits size_fits = omega arith
+line-by-short number size x (Some r) number_fits size_fits =
+    line-short number size r (state_behind x.head.state r) number_fits size_fits
+
+pub whole-most : (s : Settings) (number : ℕ) (x : Exchange) (m : List ℕ) → number < 2 ^ 64 → length m < 2 ^ 64
+    → length (written_whole s.job number x m) ≤ length x.bytes + 2 * length m + 128
+whole-most s number x m number_fits size_fits = by s.job refl
+  where
+    by : (i : Job) → s.job ≡ i → length (written_whole s.job number x m) ≤ length x.bytes + 2 * length m + 128
+    by job.Filter is = omega (arith, ap length (whole-filter s.job number x m is), output-length x m)
+    by job.Explain is =
+        omega (arith, ap length (whole-explain s.job number x m is), line-by-short number (length m) x (window_rule_of x.head m) number_fits size_fits)
+
+le-true : (a b : ℕ) → a ≤ b → nat_le a b ≡ true
+le-true a b h = grind (arith, nat_tests)
+
+le-false : (a b : ℕ) → b < a → nat_le a b ≡ false
+le-false a b h = grind (arith, nat_tests)
+
+-- the body fills the window or doesn't, and a rule decides it or none
+pub undecided-full : (h : Head) (m : List ℕ) (b : Bool) → 1024 ≤ length m → b ≡ is_none (window_rule_of h m) → b ≡ is_in_text h m
+unfolding is_in_text window_size
+undecided-full h m b full none = rw (le-true 1024 (length m) full) none
+
+pub undecided-short : (h : Head) (m : List ℕ) → length m < 1024 → false ≡ is_in_text h m
+unfolding is_in_text window_size
+undecided-short h m short = rw (le-false 1024 (length m) short) refl

@@ -1,0 +1,21 @@
+use Rattle.std.proofs.Common.{◌≡◌, ◌+◌, ◌^◌, ◌≤◌, ◌++◌, ℕ, List, length}
+use Rattle.orb_engine.specs.declared.settings.Settings.{Settings}
+use Rattle.orb_engine.specs.Reads.{Reads, Goes}
+use Rattle.orb_engine.proofs.engine.Engine.take_all.Given as goal
+
+-- what was taken so far is a front of the piece
+abbrev pub invariant-steps : goal.invariant-steps
+invariant-steps g l = record {
+  front : List ℕ;
+  cut : l.piece ≡ front ++ l.rest;
+  can : (s : Settings) × (m : List ℕ) × (given : List ℕ) × Reads l.self s m given;
+  goes : (s : Settings) (m given : List ℕ) → Reads l.initial.self s m given
+      → Goes l.self s (g.O.Sink.put l.initial.output) (g.O.Sink.put l.output) (g.O.Sink.size l.initial.output) (g.O.Sink.size l.output) (m ++ front) given;
+  calm : g.O.Sink.faults l.output ≡ g.O.Sink.faults l.initial.output;
+  keeps : g.O.Sink.kept l.initial.output l.output;
+  taken : l.self.taken ≡ l.initial.self.taken + length front;
+  settings : l.self.writer.settings ≡ l.initial.self.writer.settings;
+}
+
+abbrev pub decreases-steps : goal.decreases-steps
+decreases-steps g l = length l.rest

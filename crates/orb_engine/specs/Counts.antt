@@ -1,0 +1,37 @@
+-- How many whole exchanges a recording has, by verdict.
+use Rattle.std.specs.Prelude.{ℕ, Bool, true, false, ◌&&◌, not, List, [], ◌∷◌, ◌++◌, map, count_by, Option, Some, None, if◌then◌else◌}
+use Rattle.std.specs.FinMap as finite
+use Rattle.media_state.specs.Table.{States}
+use Rattle.response_rules.specs.declared.rules.Rule.{Rule}
+use Rattle.response_rules.specs.Rules.{is_allowing}
+use Rattle.response_rules.specs.Tables.{window_rule_of}
+use Rattle.orb_engine.specs.declared.settings.Settings.{Settings}
+use Rattle.orb_engine.specs.Heads.{Heads, judged_by, is_to_end}
+use Rattle.orb_engine.specs.Recording as cut
+use Rattle.orb_engine.specs.Recording.{Item, Tail, Recording, table_behind}
+
+abbrev pub as_list : Option Rule → List Rule
+as_list None = []
+as_list (Some rule) = rule ∷ []
+
+-- the rule of a tail that is a whole exchange where the input has ended
+abbrev pub rules_of_tail : Settings → States → (ended : Bool) → Tail → List Rule
+rules_of_tail s table ended (cut.Sending h sent body) =
+    if ended && is_to_end h.response.frame then as_list (window_rule_of (judged_by s table h) body) else []
+rules_of_tail s table ended tail = []
+
+abbrev pub rules_of_items : List Item → List Rule
+rules_of_items items = map (λ i. i.rule) items
+
+-- the rules of the whole exchanges, in order
+unfoldable pub rules_of : Settings → Recording → (ended : Bool) → List Rule
+rules_of s r ended =
+    rules_of_items r.items ++ rules_of_tail s (table_behind finite.empty r.items) ended r.tail
+
+-- how many of them allow
+abbrev pub count_allowed : List Rule → ℕ
+count_allowed rules = count_by is_allowing rules
+
+-- how many block
+abbrev pub count_blocked : List Rule → ℕ
+count_blocked rules = count_by (λ rule. not (is_allowing rule)) rules

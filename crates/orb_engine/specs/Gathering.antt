@@ -1,0 +1,20 @@
+-- What gathering the bytes of a head does with a piece.
+use Rattle.std.specs.Prelude.{◌≡◌, ℕ, ◌+◌, ◌≤◌, List, ◌++◌, length, take, Option, Some, None}
+use Rattle.http_exchange.specs.Head.{head_length}
+use Rattle.orb_engine.specs.declared.heads.HeadTaken.{HeadTaken}
+use Rattle.orb_engine.specs.declared.heads.HeadTaken.TheVariants as taken
+use Rattle.orb_engine.specs.Texts.{IsHeadText, IsOpenHead, IsLongHead}
+
+-- the first empty line of the text and the piece behind it ends behind so many bytes of the piece, or there is none
+abbrev pub EndsBehind : (text piece : List ℕ) → Option ℕ → Type 0
+EndsBehind text piece None = head_length (text ++ piece) ≡ None
+EndsBehind text piece (Some used) =
+    (head_length (text ++ piece) ≡ Some (length text + used)) × (1 ≤ used) × (used ≤ length piece)
+
+-- behind the bytes `before`, the piece was taken as this says
+abbrev pub TakesHead : (before after piece : List ℕ) → HeadTaken → Type 0
+TakesHead before after piece taken.Open = (after ≡ before ++ piece) × IsOpenHead after
+TakesHead before after piece taken.Long =
+    (front : List ℕ) × (rest : List ℕ) × (piece ≡ front ++ rest) × (after ≡ before ++ front) × IsLongHead after
+TakesHead before after piece (taken.Whole used) =
+    (1 ≤ used) × (used ≤ length piece) × (after ≡ before ++ take used piece) × IsHeadText after

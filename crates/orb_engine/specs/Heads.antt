@@ -1,0 +1,121 @@
+-- The two heads of an exchange, and what they say.
+use Rattle.std.specs.Prelude.{◌≡◌, ℕ, Bool, true, false, List, Option, Some, None, Result, Ok, Err, if◌then◌else◌, unwrap_or}
+use Rattle.std.specs.FinMap as map
+use Rattle.std.specs.Ordering.{nat_cmp}
+use Rattle.httparse.specs.Grammar.{status_code, ResponseHead}
+use Rattle.media_state.specs.Table.{States, admitted, HasNoRoom}
+use Rattle.media_state.specs.declared.states.MediaState.{MediaState}
+use Rattle.media_state.specs.declared.states.MediaState.TheVariants.{Na, Initial}
+use Rattle.response_rules.specs.Heads.{Head, HasEssence}
+use Rattle.response_rules.specs.Reads.{head_of}
+use Rattle.body_filter.specs.Exchanges.{Exchange}
+use Rattle.http_exchange.specs.Heads.{IsResponse}
+use Rattle.http_exchange.specs.Fields.{pairs_of}
+use Rattle.http_exchange.specs.Reading.{ReadsRequestHead}
+use Rattle.http_exchange.specs.ResponseFields.{frame_of}
+use Rattle.http_exchange.specs.declared.request.RequestHead.{RequestHead}
+use Rattle.http_exchange.specs.declared.frames.BodyFrame.{BodyFrame}
+use Rattle.http_exchange.specs.declared.frames.BodyFrame.TheVariants as frame
+use Rattle.orb_engine.specs.declared.settings.Settings.{Settings}
+use Rattle.orb_engine.specs.Texts.{IsHeadText}
+
+-- a request head, and what it says of the fetch that made it
+pub record Request : Type 0 where
+  pub bytes : List ℕ
+  pub asks : RequestHead
+
+-- a response head, and what it says
+pub record Response : Type 0 where
+  pub bytes : List ℕ
+  pub status : ℕ
+  pub fields : List (List ℕ × List ℕ)
+  pub essence : Option (List ℕ × List ℕ)
+  pub frame : BodyFrame
+
+-- the heads of an exchange
+pub record Heads : Type 0 where
+  pub request : Request
+  pub response : Response
+
+-- the id of a media request; one on another request has no effect
+abbrev pub id_of : RequestHead → Option ℕ
+id_of asks = if asks.media then asks.media_id else None
+
+-- the table of media states with the id kept
+abbrev pub admits : States → Option ℕ → States
+admits table None = table
+admits table (Some id) = admitted table id
+
+-- the state that is kept of the id; without an id each request is the first
+abbrev pub kept_state : States → Option ℕ → MediaState
+kept_state table None = Initial
+kept_state table (Some id) = unwrap_or (map.get (admitted table id) id) Initial
+
+-- the state of its media resource that a request finds
+abbrev pub state_before : States → RequestHead → MediaState
+state_before table asks = if asks.media then kept_state table (id_of asks) else Na
+
+-- the table with the id's state set
+abbrev pub keeps : States → Option ℕ → MediaState → States
+keeps table None state = table
+keeps table (Some id) state = map.insert (admitted table id) id state
+
+-- the id can't be kept, since too many others are
+abbrev pub IsRefusedId : States → Option ℕ → Type 0
+IsRefusedId table None = ⊥
+IsRefusedId table (Some id) = HasNoRoom table id
+
+-- the bytes are a request head that says this
+pub record IsRequestHead (r : Request) : Type 0 where
+  pub text : IsHeadText r.bytes
+  pub reads : ReadsRequestHead r.bytes (Ok r.asks)
+
+-- the same, and the id of a media request can be kept
+pub record IsRequestIn (table : States) (r : Request) : Type 0 where
+  pub head : IsRequestHead r
+  pub room : IsRefusedId table (id_of r.asks) → ⊥
+
+-- the bytes are a response head that says this, behind a request that is HEAD or isn't
+pub record IsResponseHead (to_head : Bool) (r : Response) : Type 0 where
+  pub text : IsHeadText r.bytes
+  pub tree : ResponseHead
+  pub reads : IsResponse r.bytes tree
+  pub status : r.status ≡ status_code tree
+  pub fields : r.fields ≡ pairs_of tree.fields
+  pub frame : frame_of to_head r.status r.fields ≡ Ok r.frame
+  pub essence : HasEssence r.fields r.essence
+
+-- both heads are good
+pub record AreHeads (table : States) (h : Heads) : Type 0 where
+  pub request : IsRequestIn table h.request
+  pub response : IsResponseHead h.request.asks.is_head h.response
+
+-- the state of its media resource that the exchange finds
+abbrev pub state_of : States → Heads → MediaState
+state_of table h = state_before table h.request.asks
+
+-- what the response is judged by
+abbrev pub judged_by : Settings → States → Heads → Head
+judged_by s table h =
+    head_of s.policy (state_of table h) h.request.asks.opaque h.response.status h.response.fields s.limit
+    h.response.essence
+
+abbrev pub is_chunked : BodyFrame → Bool
+is_chunked frame.Empty = false
+is_chunked (frame.Length n) = false
+is_chunked frame.Chunked = true
+is_chunked frame.ToEnd = false
+
+abbrev pub is_to_end : BodyFrame → Bool
+is_to_end frame.Empty = false
+is_to_end (frame.Length n) = false
+is_to_end frame.Chunked = false
+is_to_end frame.ToEnd = true
+
+-- the response, to be filtered
+abbrev pub exchange_of : Settings → States → Heads → Exchange
+exchange_of s table h = record {
+  head = judged_by s table h;
+  bytes = h.response.bytes;
+  chunked = is_chunked h.response.frame;
+}

@@ -1,0 +1,343 @@
+-- What an engine has read of a recording, and what its calls answer.
+use Rattle.std.specs.Prelude.{◌≡◌, ℕ, ◌+◌, ◌≤◌, Bool, true, false, List, [], ◌++◌, length, Option, Some, None, Result, Ok, Err, if◌then◌else◌}
+use Rattle.std.specs.FinMap as map
+use Rattle.orb_io.specs.Told.{Gains, IsPrefix, Rose}
+use Rattle.response_rules.specs.declared.rules.Rule.{Rule}
+use Rattle.media_state.specs.Table.{States}
+use Rattle.http_exchange.specs.Frames.{IsFront}
+use Rattle.http_exchange.specs.Reads.{IsTaken}
+use Rattle.http_exchange.specs.Reads.{HasRead as UnframerHasRead, Answers as UnframerAnswers}
+use Rattle.http_exchange.specs.declared.pieces.Taken.{Taken}
+use Rattle.orb_engine.specs.declared.settings.Settings.{Settings}
+use Rattle.orb_engine.specs.declared.counts.Counts.{Counts}
+use Rattle.orb_engine.specs.declared.engine.Engine.{Engine}
+use Rattle.orb_engine.specs.declared.engine.Incoming.{Incoming}
+use Rattle.orb_engine.specs.declared.engine.Asked.{Asked as AskedRequest}
+use Rattle.orb_engine.specs.declared.engine.Stage.{Stage}
+use Rattle.orb_engine.specs.declared.engine.Stage.TheVariants as stage
+use Rattle.orb_engine.specs.declared.outcome.EngineOutcome.{EngineOutcome}
+use Rattle.orb_engine.specs.declared.outcome.EngineOutcome.TheVariants as outcome
+use Rattle.response_rules.specs.declared.deciding.Decider.{Decider}
+use Rattle.http_exchange.specs.declared.frames.BodyFrame.{BodyFrame}
+use Rattle.orb_engine.specs.Texts.{IsHeadText, IsOpenHead}
+use Rattle.orb_engine.specs.Heads.{Request, Response, Heads, AreHeads, IsRequestIn, IsResponseHead, id_of, admits, state_before, judged_by, exchange_of, is_to_end}
+use Rattle.orb_engine.specs.Recording as cut
+use Rattle.orb_engine.specs.Recording.{Item, Tail, Recording, IsRecording, AreItems, is_open, spell_heads, spell_items, table_behind}
+use Rattle.orb_engine.specs.Ends as ends
+use Rattle.orb_engine.specs.Ends.{End, stop_of, response_place}
+use Rattle.orb_engine.specs.Outputs.{output_of, written_items, written_front}
+use Rattle.orb_engine.specs.Counts.{rules_of_items, rules_of, count_allowed, count_blocked}
+use Rattle.orb_engine.specs.Boxes.{empty_box}
+use Rattle.orb_engine.specs.Workers.{IsNewFor}
+use Rattle.orb_engine.specs.Writing.{IsWriterFor, WriterReads, box_of}
+
+-- one exchange more
+abbrev pub count_with : Counts → Bool → Counts
+count_with c allow =
+    if allow then record { allowed = c.allowed + 1; blocked = c.blocked }
+    else record { allowed = c.allowed; blocked = c.blocked + 1 }
+
+-- the numbers of exchanges that these rules decide
+abbrev pub counts_of : List Rule → Counts
+counts_of rules = record { allowed = count_allowed rules; blocked = count_blocked rules }
+
+-- a recording behind which more may come
+abbrev pub open_cut : List Item → Tail → Recording
+open_cut items tail = record { items = items; tail = tail; more = [] }
+
+-- the media states behind these exchanges
+abbrev pub table_of : List Item → States
+table_of items = table_behind map.empty items
+
+-- the numbers are those of some first exchanges, whose outputs stand whole at the front of what was written
+pub record IsTold (counts : Counts) (s : Settings) (items : List Item) (wrote : List ℕ) : Type 0 where
+  pub front : List Item
+  pub others : List Item
+  pub are : items ≡ front ++ others
+  pub numbers : counts ≡ counts_of (rules_of_items front)
+  pub whole : IsPrefix (written_items s map.empty 0 front) wrote
+
+-- what an engine knows in each stage
+pub record Common (e : Engine) (s : Settings) (items : List Item) (given : List ℕ) : Type 0 where
+  pub settings : e.writer.settings ≡ s
+  pub place : e.place ≡ length (spell_items items [])
+  pub counts : e.counts ≡ counts_of (rules_of_items items)
+  pub told : IsTold e.told s items given
+
+-- it is before a request head, or in it
+pub record Asks (e : Engine) (s : Settings) (items : List Item) (tail : Tail) : Type 0 where
+  pub head : List ℕ
+  pub is : tail ≡ cut.Asking head
+  pub text : e.head ≡ head
+  pub media : e.media ≡ table_of items
+  pub writer : IsWriterFor e.writer s
+
+-- it is before the response head that answers a request, or in it
+pub record Answers (asked : AskedRequest) (e : Engine) (s : Settings) (items : List Item) (tail : Tail) : Type 0 where
+  pub request : Request
+  pub head : List ℕ
+  pub is : tail ≡ cut.Answering request head
+  pub text : e.head ≡ head
+  pub media : e.media ≡ admits (table_of items) (id_of request.asks)
+  pub writer : IsWriterFor e.writer s
+  pub asks : asked.asks ≡ request.asks
+  pub state : asked.state ≡ state_before (table_of items) request.asks
+  pub place : asked.place ≡ length (spell_items items []) + length request.bytes
+
+-- a response with these heads comes, and these bytes of its body have come
+pub record Receives (incoming : Incoming) (e : Engine) (s : Settings) (items : List Item) (h : Heads) (sent body : List ℕ) : Type 0
+  where
+    pub unframer : UnframerHasRead incoming.unframer h.response.frame sent body
+    pub writer : WriterReads e.writer s (exchange_of s (table_of items) h) body
+    pub media : e.media ≡ admits (table_of items) (id_of h.request.asks)
+    pub id : incoming.id ≡ id_of h.request.asks
+    pub to_end : incoming.to_end ≡ is_to_end h.response.frame
+    pub place : incoming.place ≡ response_place (length (spell_items items [])) h
+
+-- it is in a body
+pub record Sends (incoming : Incoming) (e : Engine) (s : Settings) (items : List Item) (tail : Tail) : Type 0 where
+  pub heads : Heads
+  pub sent : List ℕ
+  pub body : List ℕ
+  pub is : tail ≡ cut.Sending heads sent body
+  pub receives : Receives incoming e s items heads sent body
+
+abbrev pub Stands : Stage → Engine → Settings → List Item → Tail → Type 0
+Stands stage.Idle e s items tail = ⊥
+Stands stage.Asking e s items tail = Asks e s items tail
+Stands (stage.Answering asked) e s items tail = Answers asked e s items tail
+Stands (stage.Sending incoming) e s items tail = Sends incoming e s items tail
+
+-- it has read these bytes, which are open, and given these; what is gathered is to be given behind them
+pub record Reads (e : Engine) (s : Settings) (m given : List ℕ) : Type 0 where
+  pub items : List Item
+  pub tail : Tail
+  pub cut : IsRecording s m (open_cut items tail)
+  pub open_ : is_open tail ≡ true
+  pub gave : given ++ (box_of e.writer).bytes ≡ output_of s (open_cut items tail) false
+  pub taken : e.taken ≡ length m
+  pub common : Common e s items given
+  pub stands : Stands e.stage e s items tail
+
+-- it is behind the heads of an exchange, and these bytes of its body have come; whether more may come isn't told yet
+pub record Fills (incoming : Incoming) (e : Engine) (s : Settings) (m given : List ℕ) : Type 0 where
+  pub items : List Item
+  pub heads : Heads
+  pub sent : List ℕ
+  pub body : List ℕ
+  pub spells : m ≡ spell_items items (spell_heads heads sent)
+  pub whole : AreItems s map.empty items
+  pub good : AreHeads (table_of items) heads
+  pub front : IsFront heads.response.frame sent body
+  pub gave : given ++ (box_of e.writer).bytes
+      ≡ written_items s map.empty 0 items ++ written_front s.job (exchange_of s (table_of items) heads) body
+  pub taken : e.taken ≡ length m
+  pub common : Common e s items given
+  pub receives : Receives incoming e s items heads sent body
+
+-- the outcome is an end of a recording
+abbrev pub IsStop : EngineOutcome → End → Type 0
+IsStop outcome.Done stop = stop ≡ ends.Done
+IsStop (outcome.Bad kind place) stop = stop ≡ ends.Bad kind place
+IsStop (outcome.Cut place) stop = stop ≡ ends.Cut place
+IsStop (outcome.HeadLimit place) stop = stop ≡ ends.HeadLimit place
+IsStop (outcome.MediaFull place) stop = stop ≡ ends.MediaFull place
+IsStop (outcome.NotBuilt place) stop = stop ≡ ends.NotBuilt place
+IsStop outcome.Endless stop = ⊥
+IsStop outcome.ReadFault stop = ⊥
+IsStop outcome.WriteFault stop = ⊥
+
+-- the bytes end so; what was given, and what is gathered, is all that is written of them
+pub record Stops (e : Engine) (s : Settings) (put put' : Option (List ℕ)) (size size' : Option ℕ) (m given : List ℕ)
+    (ended : Bool) (o : EngineOutcome) : Type 0 where
+  pub pushed : List ℕ
+  pub gained : Gains put put' size size' pushed
+  pub recording : Recording
+  pub cut : IsRecording s m recording
+  pub stop : IsStop o (stop_of s recording ended)
+  pub gave : (given ++ pushed) ++ (box_of e.writer).bytes ≡ output_of s recording ended
+  pub counts : e.counts ≡ counts_of (rules_of s recording ended)
+  pub told : IsTold e.told s recording.items (given ++ pushed)
+
+-- the sink failed: what was given is a front of what is written of the first bytes
+pub record Breaks (e : Engine) (s : Settings) (put put' : Option (List ℕ)) (size size' : Option ℕ) (m given : List ℕ)
+    (ended : Bool) : Type 0 where
+  pub pushed : List ℕ
+  pub gained : Gains put put' size size' pushed
+  pub seen : List ℕ
+  pub unseen : List ℕ
+  pub all : m ≡ seen ++ unseen
+  pub all_seen : ended ≡ true → unseen ≡ []
+  pub recording : Recording
+  pub cut : IsRecording s seen recording
+  pub within : IsPrefix (given ++ pushed) (output_of s recording ended)
+  pub told : IsTold e.told s recording.items (given ++ pushed)
+
+-- what stops a step
+abbrev pub Halts : EngineOutcome → Engine → Settings → Option (List ℕ) → Option (List ℕ) → Option ℕ → Option ℕ
+    → List ℕ → List ℕ → Bool → Type 0
+Halts outcome.WriteFault e s put put' size size' m given ended = Breaks e s put put' size size' m given ended
+Halts o e s put put' size size' m given ended = Stops e s put put' size size' m given ended o
+
+-- it went on, and this holds
+pub record Goes (e : Engine) (s : Settings) (put put' : Option (List ℕ)) (size size' : Option ℕ) (m given : List ℕ) : Type 0
+  where
+    pub pushed : List ℕ
+    pub gained : Gains put put' size size' pushed
+    pub reads : Reads e s m (given ++ pushed)
+
+-- the answer of a step that takes no further bytes
+abbrev pub Settles : Result (Unit {0}) EngineOutcome → Engine → Settings → Option (List ℕ) → Option (List ℕ)
+    → Option ℕ → Option ℕ → List ℕ → List ℕ → Type 0
+Settles (Ok done) e s put put' size size' m given = Goes e s put put' size size' m given
+Settles (Err o) e s put put' size size' m given = Halts o e s put put' size size' m given false
+
+-- the answer of a step that takes the first bytes of a piece
+pub record Takes (e : Engine) (s : Settings) (put put' : Option (List ℕ)) (size size' : Option ℕ)
+    (m given piece : List ℕ) (used : ℕ) : Type 0 where
+  pub front : List ℕ
+  pub rest : List ℕ
+  pub is : piece ≡ front ++ rest
+  pub size_ : length front ≡ used
+  pub goes : Goes e s put put' size size' (m ++ front) given
+
+abbrev pub Steps : Result ℕ EngineOutcome → Engine → Settings → Option (List ℕ) → Option (List ℕ)
+    → Option ℕ → Option ℕ → List ℕ → List ℕ → List ℕ → Type 0
+Steps (Ok used) e s put put' size size' m given piece = Takes e s put put' size size' m given piece used
+Steps (Err o) e s put put' size size' m given piece = Halts o e s put put' size size' (m ++ piece) given false
+
+-- a write fault comes only where the sink's count rose; every other answer leaves it as it was
+abbrev pub HaltCause : EngineOutcome → ℕ → ℕ → Type 0
+HaltCause outcome.WriteFault before after = Rose before after
+HaltCause o before after = after ≡ before
+
+abbrev pub Causes : {T : Type 0} → Result T EngineOutcome → ℕ → ℕ → Type 0
+Causes (Ok value) before after = after ≡ before
+Causes (Err o) before after = HaltCause o before after
+
+-- a whole request head has come, and is to be read
+pub record HasWholeRequest (e : Engine) (s : Settings) (m given : List ℕ) : Type 0 where
+  pub items : List Item
+  pub head : List ℕ
+  pub spells : m ≡ spell_items items head
+  pub whole : AreItems s map.empty items
+  pub text : IsHeadText head
+  pub buffer : e.head ≡ head
+  pub media : e.media ≡ table_of items
+  pub writer : IsWriterFor e.writer s
+  pub gave : given ++ (box_of e.writer).bytes ≡ written_items s map.empty 0 items
+  pub taken : e.taken ≡ length m
+  pub common : Common e s items given
+
+-- a whole response head has come, and is to be read
+pub record HasWholeResponse (asked : AskedRequest) (e : Engine) (s : Settings) (m given : List ℕ) : Type 0 where
+  pub items : List Item
+  pub request : Request
+  pub head : List ℕ
+  pub spells : m ≡ spell_items items (request.bytes ++ head)
+  pub whole : AreItems s map.empty items
+  pub good : IsRequestIn (table_of items) request
+  pub text : IsHeadText head
+  pub buffer : e.head ≡ head
+  pub media : e.media ≡ admits (table_of items) (id_of request.asks)
+  pub writer : IsWriterFor e.writer s
+  pub asks : asked.asks ≡ request.asks
+  pub state : asked.state ≡ state_before (table_of items) request.asks
+  pub place : asked.place ≡ length (spell_items items []) + length request.bytes
+  pub gave : given ++ (box_of e.writer).bytes ≡ written_items s map.empty 0 items
+  pub taken : e.taken ≡ length m
+  pub common : Common e s items given
+
+-- it was read, and this is its frame, and a decider for its response
+pub record HasReadHeads (asked : AskedRequest) (decider : Decider) (frame : BodyFrame) (e : Engine) (s : Settings) (m given : List ℕ) : Type 0
+  where
+    pub whole : HasWholeResponse asked e s m given
+    pub response : Response
+    pub bytes : response.bytes ≡ whole.head
+    pub good : IsResponseHead whole.request.asks.is_head response
+    pub frame_is : frame ≡ response.frame
+    pub new : IsNewFor decider s (judged_by s (table_of whole.items) (record { request = whole.request; response = response }))
+
+-- what `Fills` says, where it is in a body
+abbrev pub FillsAt : Stage → Engine → Settings → List ℕ → List ℕ → Type 0
+FillsAt stage.Idle e s m given = ⊥
+FillsAt stage.Asking e s m given = ⊥
+FillsAt (stage.Answering asked) e s m given = ⊥
+FillsAt (stage.Sending incoming) e s m given = Fills incoming e s m given
+
+-- what comes of the content that the unframer has taken, which the writer hasn't read yet
+pub record Passes (incoming : Incoming) (e : Engine) (s : Settings) (m given piece : List ℕ) : Type 0 where
+  pub items : List Item
+  pub heads : Heads
+  pub sent : List ℕ
+  pub body : List ℕ
+  pub spells : m ≡ spell_items items (spell_heads heads sent)
+  pub whole : AreItems s map.empty items
+  pub good : AreHeads (table_of items) heads
+  pub front : IsFront heads.response.frame sent (body ++ piece)
+  pub gave : given ++ (box_of e.writer).bytes
+      ≡ written_items s map.empty 0 items ++ written_front s.job (exchange_of s (table_of items) heads) body
+  pub taken : e.taken ≡ length m
+  pub common : Common e s items given
+  pub unframer : UnframerHasRead incoming.unframer heads.response.frame sent (body ++ piece)
+  pub writer : WriterReads e.writer s (exchange_of s (table_of items) heads) body
+  pub media : e.media ≡ admits (table_of items) (id_of heads.request.asks)
+  pub id : incoming.id ≡ id_of heads.request.asks
+  pub to_end : incoming.to_end ≡ is_to_end heads.response.frame
+  pub place : incoming.place ≡ response_place (length (spell_items items [])) heads
+
+abbrev pub PassesAt : Stage → Engine → Settings → List ℕ → List ℕ → List ℕ → Type 0
+PassesAt stage.Idle e s m given piece = ⊥
+PassesAt stage.Asking e s m given piece = ⊥
+PassesAt (stage.Answering asked) e s m given piece = ⊥
+PassesAt (stage.Sending incoming) e s m given piece = Passes incoming e s m given piece
+
+abbrev pub IsSending : Stage → Type 0
+IsSending stage.Idle = ⊥
+IsSending stage.Asking = ⊥
+IsSending (stage.Answering asked) = ⊥
+IsSending (stage.Sending incoming) = Unit {0}
+
+-- the first bytes of a request head have come, or none
+pub record HasOpenRequest (e : Engine) (s : Settings) (m given : List ℕ) : Type 0 where
+  pub items : List Item
+  pub head : List ℕ
+  pub spells : m ≡ spell_items items head
+  pub whole : AreItems s map.empty items
+  pub text : IsOpenHead head
+  pub buffer : e.head ≡ head
+  pub media : e.media ≡ table_of items
+  pub writer : IsWriterFor e.writer s
+  pub gave : given ++ (box_of e.writer).bytes ≡ written_items s map.empty 0 items
+  pub taken : e.taken ≡ length m
+  pub common : Common e s items given
+
+-- the same of a response head
+pub record HasOpenResponse (asked : AskedRequest) (e : Engine) (s : Settings) (m given : List ℕ) : Type 0 where
+  pub items : List Item
+  pub request : Request
+  pub head : List ℕ
+  pub spells : m ≡ spell_items items (request.bytes ++ head)
+  pub whole : AreItems s map.empty items
+  pub good : IsRequestIn (table_of items) request
+  pub text : IsOpenHead head
+  pub buffer : e.head ≡ head
+  pub media : e.media ≡ admits (table_of items) (id_of request.asks)
+  pub writer : IsWriterFor e.writer s
+  pub asks : asked.asks ≡ request.asks
+  pub state : asked.state ≡ state_before (table_of items) request.asks
+  pub place : asked.place ≡ length (spell_items items []) + length request.bytes
+  pub gave : given ++ (box_of e.writer).bytes ≡ written_items s map.empty 0 items
+  pub taken : e.taken ≡ length m
+  pub common : Common e s items given
+
+-- what a body's unframer took of a piece; all else of the body is as it was
+pub record Unframes (i : Incoming) (after : Stage) (piece : List ℕ) (t : Taken) : Type 0 where
+  pub incoming : Incoming
+  pub is : after ≡ stage.Sending incoming
+  pub to_end : incoming.to_end ≡ i.to_end
+  pub id : incoming.id ≡ i.id
+  pub place : incoming.place ≡ i.place
+  pub taken : IsTaken t incoming.unframer piece
+  pub answers : (f : BodyFrame) (m given : List ℕ) → UnframerHasRead i.unframer f m given
+      → UnframerAnswers t incoming.unframer f m given piece

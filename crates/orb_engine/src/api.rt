@@ -1,0 +1,107 @@
+//! The calls of an engine on a recording in pieces.
+ghost use Rattle.std.specs.Prelude.{◌≡◌, ◌≤◌, ◌+◌, ◌^◌, ◌++◌, ℕ, List, [], length, IfOk, IfSome, OnErr, IsSome, None};
+ghost use Rattle.orb_engine.specs.Reads.{HaltCause};
+ghost use Rattle.orb_engine.specs.Runs.{settings_of, taken_by, allowed_by, blocked_by, HasRead, CanFeed, IsSpent, FeedAnswers, FeedCauses, EndAnswers};
+
+use crate::counts::Counts;
+use crate::engine::{Engine, Stage};
+use crate::heads::HeadReader;
+use crate::outcome::EngineOutcome;
+use crate::settings::Settings;
+use crate::writer::Writer;
+use media_state::MediaTable;
+use orb_io::{NoMemory, Sink};
+use std::alloc::Global;
+
+impl Engine {
+    /// An engine for these settings, whose limit is from 1,024 to 268,435,456. It takes all memory that it will
+    /// use: for `Filter` the limit and less than 1 MiB besides, for `Explain` less than 1 MiB.
+    pub fn open(alloc: Global, settings: Settings) -> Result<Engine, NoMemory>
+        requires low { 1024 ≤ settings.limit }
+        requires high { settings.limit ≤ 268435456 }
+        ensures settings { IfOk result (λ e. settings_of e ≡ settings) }
+        ensures allowed { IfOk result (λ e. allowed_by e ≡ 0) }
+        ensures blocked { IfOk result (λ e. blocked_by e ≡ 0) }
+        ensures spent { IfOk result IsSpent }
+    {
+        let media = MediaTable::open(alloc)?;
+        let head = HeadReader::open(alloc)?;
+        let writer = Writer::open(alloc, settings)?;
+        Ok(Engine {
+            media,
+            head,
+            writer,
+            stage: Stage::Idle,
+            place: 0,
+            taken: 0,
+            counts: Counts::NONE,
+            told: Counts::NONE,
+        })
+    }
+
+    /// Begins a recording, with no media states. What came before is dropped.
+    pub fn start(&mut self)
+        ensures reads { HasRead self.new (settings_of self.old) [] [] }
+        ensures settings { settings_of self.new ≡ settings_of self.old }
+        ensures taken { taken_by self.new ≡ 0 }
+    {
+        self.media.clear();
+        self.head.clear();
+        self.writer.clear();
+        self.stage = Stage::Asking;
+        self.place = 0;
+        self.taken = 0;
+        self.counts = Counts::NONE;
+        self.told = Counts::NONE;
+    }
+
+    /// Takes the next bytes of the recording, and pushes all output that they settle. `None` exactly where the
+    /// recording of the bytes so far is still open and the sink took all; else the outcome, behind which the engine
+    /// takes only a new beginning. It never answers `Done`, `Cut`, `Endless` or `ReadFault`.
+    pub fn feed<O: Sink>(&mut self, piece: &[u8], output: &mut O) -> Option<EngineOutcome>
+        requires can { CanFeed self.old }
+        requires few { taken_by self.old + length piece.now ≤ 2 ^ 62 }
+        ensures answers { (s : Settings) (m given : List ℕ) → HasRead self.old s m given
+            → FeedAnswers result self.new s (O.put output.old) (O.put output.new)
+            (O.size output.old) (O.size output.new) (m ++ piece.now) given }
+        ensures causes { FeedCauses result (O.faults output.old) (O.faults output.new) }
+        ensures keeps { O.kept output.old output.new }
+        ensures settings { settings_of self.new ≡ settings_of self.old }
+        ensures taken { result ≡ None → taken_by self.new ≡ taken_by self.old + length piece.now }
+        ensures spent { IsSome result → IsSpent self.new }
+    {
+        match self.take_all(piece, output) {
+            Ok(()) => self.flush_open(output),
+            Err(stop) => Some(self.settle(stop, output)),
+        }
+    }
+
+    /// Ends the recording: where it ends, or `WriteFault`.
+    pub fn end<O: Sink>(&mut self, output: &mut O) -> EngineOutcome
+        requires { CanFeed self.old }
+        ensures answers { (s : Settings) (m given : List ℕ) → HasRead self.old s m given
+            → EndAnswers result self.new s (O.put output.old) (O.put output.new)
+            (O.size output.old) (O.size output.new) m given }
+        ensures causes { HaltCause result (O.faults output.old) (O.faults output.new) }
+        ensures keeps { O.kept output.old output.new }
+        ensures settings { settings_of self.new ≡ settings_of self.old }
+        ensures spent { IsSpent self.new }
+    {
+        let stop = self.finish(output);
+        self.settle(stop, output)
+    }
+
+    /// How many whole exchanges of the recording were allowed; 0 before the first.
+    pub fn allowed(&self) -> u64
+        ensures { result ≡ allowed_by self.now }
+    {
+        self.counts.allowed
+    }
+
+    /// How many were blocked.
+    pub fn blocked(&self) -> u64
+        ensures { result ≡ blocked_by self.now }
+    {
+        self.counts.blocked
+    }
+}

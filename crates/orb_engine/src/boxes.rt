@@ -1,0 +1,104 @@
+//! What one call has to write, gathered so that it goes out in few pushes.
+ghost use Rattle.std.specs.Prelude.{◌≡◌, Some};
+ghost use Rattle.orb_io.specs.Told.{Pushes, HasCause};
+ghost use Rattle.orb_io.specs.Memory.{told_size};
+
+use crate::appending::append;
+use crate::heads::front_of;
+use orb_io::{Failed, NoMemory, Sink};
+use std::alloc::Global;
+use std::marker::Model;
+
+/// How many bytes are gathered at most.
+pub(crate) const ROOM: usize = 16_384;
+
+/// A sink of fixed room in memory. It fails only where it is full.
+#[derive(Drop)]
+pub(crate) struct Outbox {
+    bytes: Vec<u8>,
+    faults: u64,
+}
+
+impl Model for Outbox {
+    ghost use Rattle.std.specs.Prelude.{◌≤◌, vec_len, vec_capacity};
+    ghost use Rattle.orb_engine.specs.Boxes.{BoxState};
+
+    ghost Value = { BoxState };
+
+    ghost view = { λ b. record { bytes = b.bytes.items; faults = b.faults } };
+
+    ghost invariant = { λ b. (vec_len b.bytes ≤ 16384) × (16384 ≤ vec_capacity b.bytes) };
+}
+
+impl Outbox {
+    ghost use Rattle.std.specs.Prelude.{◌<◌, ◌+◌, ◌↔◌, IfOk, IsTrue, [], length};
+    ghost use Rattle.orb_engine.specs.Boxes.{BoxState, box_room, empty_box};
+
+    /// Reserves the room.
+    pub(crate) fn open(alloc: Global) -> Result<Outbox, NoMemory>
+        ensures { IfOk result (λ b. b ≡ empty_box) }
+    {
+        match Vec::with_capacity(alloc, ROOM) {
+            Ok(bytes) => Ok(Outbox { bytes, faults: 0 }),
+            Err(_) => Err(NoMemory),
+        }
+    }
+
+    /// Forgets the bytes, and the faults.
+    pub(crate) fn clear(&mut self)
+        ensures { self.new ≡ empty_box }
+    {
+        self.bytes.clear();
+        self.faults = 0;
+    }
+
+    /// The bytes.
+    pub(crate) fn as_slice(&self) -> &[u8]
+        ensures { result.now ≡ self.now.bytes }
+    {
+        self.bytes.as_slice()
+    }
+
+    /// Whether there is room for so many bytes, and one more.
+    #[tactic(auto, unfolding(crate::specs::Boxes::box_room))]
+    pub(crate) fn has_room(&self, most: u64) -> bool
+        ensures { IsTrue result ↔ length self.now.bytes + most < box_room }
+    {
+        most < (ROOM - self.bytes.len()) as u64
+    }
+}
+
+impl Sink for Outbox {
+    ghost use Rattle.orb_engine.specs.Boxes.{IsBehind};
+    ghost use Rattle.orb_engine.specs.BoxLaws.{IsBehind-same, IsBehind-twice};
+    ghost use Rattle.std.specs.Prelude.{◌-◌, ◌^◌};
+    ghost use Rattle.std.proofs.Common.{refl, length};
+    ghost use Rattle.std.proofs.Math.Nat.{min-le_right as min_le_right};
+
+    ghost put = { λ b. Some b.bytes };
+
+    ghost size = { λ b. told_size b.bytes };
+
+    ghost faults = { λ b. b.faults };
+
+    ghost kept = { λ b c. IsBehind b c };
+
+    ghost number = { λ _. refl };
+
+    ghost number_fits = { λ b. min_le_right (length b.bytes) (2 ^ 64 - 1) };
+
+    ghost kept_reflexive = { λ b. IsBehind-same b };
+
+    ghost kept_transitive = { λ b c d first second. IsBehind-twice b c d first second };
+
+    fn push(&mut self, piece: &[u8]) -> Result<(), Failed> {
+        let room = ROOM - self.bytes.len();
+        append(&mut self.bytes, front_of(piece, room));
+        if piece.len() <= room {
+            Ok(())
+        } else {
+            self.faults = self.faults.saturating_add(1);
+            Err(Failed)
+        }
+    }
+}

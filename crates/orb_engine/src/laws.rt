@@ -1,0 +1,55 @@
+//! Laws of the definitions of a recording.
+ghost use Rattle.std.specs.Prelude.{◌≡◌, ◌≢◌, ◌↔◌, ℕ, Bool, true, false, List, ◌++◌};
+ghost use Rattle.orb_io.specs.Told.{IsPrefix};
+ghost use Rattle.response_rules.specs.declared.rules.Rule.{Rule};
+ghost use Rattle.orb_engine.specs.declared.settings.Settings.{Settings};
+ghost use Rattle.orb_engine.specs.Recording.{Item, Recording, IsRecording, is_open};
+ghost use Rattle.orb_engine.specs.Ends.{Open, stop_of};
+ghost use Rattle.orb_engine.specs.Outputs.{output_of};
+ghost use Rattle.orb_engine.specs.Counts.{rules_of};
+ghost use Rattle.orb_engine.specs.Refusals.{IsAnsweredAs};
+
+/// Law: bytes are one recording at most, in all that is answered of it: its whole exchanges, where it ends,
+/// what is written of it, and the rules that decide its exchanges.
+pub fn one_recording()
+    ensures items { (s : Settings) (m : List ℕ) (a b : Recording)
+        → IsRecording s m a → IsRecording s m b → a.items ≡ b.items }
+    ensures stop { (s : Settings) (m : List ℕ) (a b : Recording)
+        → IsRecording s m a → IsRecording s m b
+        → (ended : Bool) → stop_of s a ended ≡ stop_of s b ended }
+    ensures output { (s : Settings) (m : List ℕ) (a b : Recording)
+        → IsRecording s m a → IsRecording s m b
+        → (ended : Bool) → output_of s a ended ≡ output_of s b ended }
+    ensures rules { (s : Settings) (m : List ℕ) (a b : Recording)
+        → IsRecording s m a → IsRecording s m b
+        → (ended : Bool) → rules_of s a ended ≡ rules_of s b ended }
+{}
+
+/// Law: bytes that end in a refusal end in it whatever follows them, and what is written of them stays. Those
+/// that end in none are open: they may go on to a further exchange.
+pub fn refusal_stays()
+    ensures opens { (s : Settings) (a : Recording)
+        → (stop_of s a false ≡ Open) ↔ (is_open a.tail ≡ true) }
+    ensures stands { (s : Settings) (m more : List ℕ) (a : Recording)
+        → IsRecording s m a → stop_of s a false ≢ Open
+        → (b : Recording) × IsRecording s (m ++ more) b × IsAnsweredAs s a b }
+    ensures alone { (s : Settings) (m more : List ℕ) (a b : Recording)
+        → IsRecording s m a → stop_of s a false ≢ Open
+        → IsRecording s (m ++ more) b → IsAnsweredAs s a b }
+{}
+
+/// Law: what is written of bytes begins what is written of all longer ones, and of the same bytes where the
+/// input has ended. The whole exchanges, and the rules that decide them, begin theirs.
+pub fn output_grows()
+    ensures longer { (s : Settings) (m more : List ℕ) (a b : Recording)
+        → IsRecording s m a → IsRecording s (m ++ more) b
+        → (ended : Bool) → IsPrefix (output_of s a false) (output_of s b ended) }
+    ensures ends { (s : Settings) (a : Recording)
+        → IsPrefix (output_of s a false) (output_of s a true) }
+    ensures items { (s : Settings) (m more : List ℕ) (a b : Recording)
+        → IsRecording s m a → IsRecording s (m ++ more) b
+        → (others : List Item) × (b.items ≡ a.items ++ others) }
+    ensures rules { (s : Settings) (m more : List ℕ) (a b : Recording)
+        → IsRecording s m a → IsRecording s (m ++ more) b
+        → (ended : Bool) → (others : List Rule) × (rules_of s b ended ≡ rules_of s a false ++ others) }
+{}

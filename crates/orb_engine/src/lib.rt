@@ -1,0 +1,38 @@
+//! The engine: a recording of HTTP/1.1 exchanges, read exchange by exchange, judged, and written on.
+//!
+//! `specs/Recording` says which bytes are a recording: whole exchanges one behind the other, and a tail that may
+//! go on to be one or is refused. `specs/Ends` says where it ends, `specs/Outputs` what is written of it, and
+//! `specs/Counts` which exchanges are counted: all over the whole list of bytes. The laws in [`laws`] are what
+//! a caller needs besides: bytes are one recording, a refusal stands, and output only grows.
+//!
+//! An [`Engine`] takes a recording in pieces, cut anywhere, or runs over a source and a sink. Behind each
+//! piece the sink has all output that the bytes so far settle. It takes memory only when it is opened.
+//!
+//! A piece goes through `feeding`, step by step: `steps` reads heads, gathered by `heads`; `bodies` passes on
+//! content; `closing` ends an exchange. What is written goes through `writer`, which lets `worker` filter or
+//! explain, and gathers short outputs in `boxes`.
+#![tactic(auto)]
+
+mod api;
+mod appending;
+mod bodies;
+mod boxes;
+mod closing;
+mod counts;
+mod engine;
+mod feeding;
+mod heads;
+mod laws;
+mod lines;
+mod media;
+mod outcome;
+mod running;
+mod settings;
+mod steps;
+mod worker;
+mod writer;
+
+pub use engine::Engine;
+pub use laws::{one_recording, output_grows, refusal_stays};
+pub use outcome::EngineOutcome;
+pub use settings::{Job, Settings};

@@ -1,0 +1,115 @@
+//! A whole run over a recording.
+ghost use Rattle.std.specs.Prelude.{◌≡◌, ◌≤◌, ◌<◌, ◌+◌, ◌^◌, ◌++◌, ℕ, List, Option, Some, None, length, IfOk};
+ghost use Rattle.std.specs.Result.{ForOk};
+ghost use Rattle.orb_io.specs.Told.{Gains, Pulls, HasCause};
+ghost use Rattle.orb_engine.specs.declared.settings.Settings.{Settings};
+ghost use Rattle.orb_engine.specs.Runs.{settings_of, taken_by, HasRead, CanFeed, Ran, RunCauses};
+ghost use Rattle.orb_engine.specs.Turns.{piece_of, is_ended, TurnAnswers, TurnCauses};
+
+use crate::engine::Engine;
+use crate::outcome::EngineOutcome;
+use orb_io::{Duplex, Failed, Sink, Source};
+
+/// The most bytes that one run takes.
+const RUN: u64 = 1 << 62;
+
+/// The most bytes that one pull gives.
+const PULL: usize = 8192;
+
+impl Engine {
+    /// One recording, from a source to a sink, beginning with no media states. It takes no memory.
+    pub fn run<I: Source, O: Sink>(&mut self, input: &mut I, output: &mut O) -> EngineOutcome
+        ensures ran { Ran result self.new (settings_of self.old) (I.left input.old) (I.left input.new)
+            (O.put output.old) (O.put output.new) (O.size output.old) (O.size output.new) }
+        ensures causes { RunCauses result (I.faults input.old) (I.faults input.new)
+            (O.faults output.old) (O.faults output.new) }
+        ensures source { I.kept input.old input.new }
+        ensures sink { O.kept output.old output.new }
+        ensures settings { settings_of self.new ≡ settings_of self.old }
+    {
+        self.start();
+        let mut room = [0u8; PULL];
+        'pulls: loop {
+            let pulled = pull_some(input, &mut room, size_of_pull(self.taken));
+            if let Some(outcome) = self.turn(pulled, &room, output) {
+                return outcome;
+            }
+        }
+    }
+
+    /// The same, from and to one object.
+    pub fn run_link<K: Duplex>(&mut self, link: &mut K) -> EngineOutcome
+        ensures ran { Ran result self.new (settings_of self.old) (K.left link.old) (K.left link.new)
+            (K.put link.old) (K.put link.new) (K.size link.old) (K.size link.new) }
+        ensures causes { RunCauses result (K.Source.faults link.old) (K.Source.faults link.new)
+            (K.Sink.faults link.old) (K.Sink.faults link.new) }
+        ensures settings { settings_of self.new ≡ settings_of self.old }
+    {
+        self.start();
+        let mut room = [0u8; PULL];
+        'pulls: loop {
+            let pulled = pull_some(link, &mut room, size_of_pull(self.taken));
+            if let Some(outcome) = self.turn(pulled, &room, link) {
+                return outcome;
+            }
+        }
+    }
+
+    /// Takes what a pull gave into the room: `None` where the run goes on, and else how it ends.
+    fn turn<O: Sink>(
+        &mut self,
+        pulled: Result<usize, Failed>,
+        room: &[u8],
+        output: &mut O,
+    ) -> Option<EngineOutcome>
+        requires can { CanFeed self.old }
+        requires within { ForOk pulled (λ n. n ≤ length room.now) }
+        requires room { taken_by self.old ≤ 2 ^ 62 }
+        requires few { ForOk pulled (λ n. taken_by self.old < 2 ^ 62 → taken_by self.old + n ≤ 2 ^ 62) }
+        ensures answers { (s : Settings) (m given : List ℕ) (put : Option (List ℕ)) (size : Option ℕ)
+            → HasRead self.old s m given → Gains put (O.put output.old) size (O.size output.old) given
+            → TurnAnswers result self.new s put (O.put output.new) size (O.size output.new)
+            (m ++ piece_of pulled room.now) (is_ended pulled) }
+        ensures causes { (before after : ℕ) → HasCause before after pulled
+            → TurnCauses result before after (O.faults output.old) (O.faults output.new) }
+        ensures keeps { O.kept output.old output.new }
+        ensures settings { settings_of self.new ≡ settings_of self.old }
+        ensures more { result ≡ None → taken_by self.old < taken_by self.new }
+        ensures fits { result ≡ None → taken_by self.new ≤ 2 ^ 62 }
+    {
+        match pulled {
+            Ok(0) => Some(self.end(output)),
+            Ok(_) if self.taken == RUN => Some(EngineOutcome::Endless),
+            Ok(count) => self.feed(&room[..count], output),
+            Err(_) => Some(EngineOutcome::ReadFault),
+        }
+    }
+}
+
+/// How many bytes the next pull may give, by how many were taken: no more than are left of a run, where there
+/// are any left.
+fn size_of_pull(taken: u64) -> usize
+    requires { taken ≤ 2 ^ 62 }
+    ensures some { 1 ≤ result }
+    ensures most { result ≤ 8192 }
+    ensures few { taken < 2 ^ 62 → taken + result ≤ 2 ^ 62 }
+{
+    let left = RUN - taken;
+    if left == 0 || left >= PULL as u64 {
+        PULL
+    } else {
+        left as usize
+    }
+}
+
+/// Pulls into the front of the room, of this size.
+fn pull_some<I: Source>(input: &mut I, room: &mut [u8], size: usize) -> Result<usize, Failed>
+    requires some { 1 ≤ size }
+    requires within { size ≤ length room.old }
+    ensures bound { IfOk result (λ n. n ≤ size) }
+    ensures bytes { Pulls (I.left input.old) (I.left input.new) result room.new }
+    ensures cause { HasCause (I.faults input.old) (I.faults input.new) result }
+    ensures keeps { I.kept input.old input.new }
+{
+    input.pull(&mut room[..size])
+}

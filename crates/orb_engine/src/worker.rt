@@ -1,0 +1,135 @@
+//! The work on one response: to filter it, or to tell its verdict.
+ghost use Rattle.std.specs.Prelude.{◌≡◌, ◌≤◌, ◌++◌, ℕ, List, [], ◌∷◌, length, is_some, true};
+ghost use Rattle.orb_io.specs.Told.{HasCause};
+ghost use Rattle.response_rules.specs.Heads.{Head};
+ghost use Rattle.response_rules.specs.Tables.{window_rule_of};
+ghost use Rattle.response_rules.specs.Reads.{HasRead as DeciderHasRead, IsVerdict};
+ghost use Rattle.body_filter.specs.Exchanges.{Exchange, exchange_of};
+
+use crate::lines::line;
+use crate::settings::{Job, Settings};
+use body_filter::{Filter, WriteFault};
+use orb_io::{NoMemory, Sink};
+use response_rules::{Decider, Rule, Verdict};
+use std::alloc::Global;
+
+/// What works on responses, one at a time.
+#[derive(Drop)]
+pub(crate) enum Worker {
+    /// Passes on what is allowed.
+    Filters(Filter),
+    /// Writes a line for each response.
+    Explains(Option<Decider>),
+}
+
+impl Worker {
+    ghost use Rattle.std.specs.Prelude.{IfOk};
+    ghost use Rattle.orb_engine.specs.declared.settings.Settings.{Settings};
+    ghost use Rattle.orb_engine.specs.Outputs.{written_front, written_whole};
+    ghost use Rattle.orb_engine.specs.Workers.{IsWorkerFor, IsNewFor, Works, Puts};
+
+    /// One that does the job of the settings.
+    pub(crate) fn open(alloc: Global, settings: Settings) -> Result<Worker, NoMemory>
+        requires low { 1024 ≤ settings.limit }
+        requires high { settings.limit ≤ 268435456 }
+        ensures { IfOk result (λ w. IsWorkerFor w settings) }
+    {
+        match settings.job {
+            Job::Filter => match Filter::open(alloc, settings.limit) {
+                Ok(filter) => Ok(Worker::Filters(filter)),
+                Err(_) => Err(NoMemory),
+            },
+            Job::Explain => Ok(Worker::Explains(None)),
+        }
+    }
+
+    /// Begins a response with a new decider.
+    pub(crate) fn begin<O: Sink>(
+        &mut self,
+        decider: Decider,
+        head: &[u8],
+        chunked: bool,
+        sink: &mut O,
+    ) -> Result<(), WriteFault>
+        requires short { length head.now ≤ 65536 }
+        requires made { (s : Settings) × (h : Head) × IsWorkerFor self.old s × IsNewFor decider s h }
+        ensures puts { (s : Settings) (h : Head) → IsWorkerFor self.old s → IsNewFor decider s h
+            → Puts result (O.put sink.old) (O.put sink.new) (O.size sink.old) (O.size sink.new)
+            [] (written_front s.job (exchange_of h head.now chunked) [])
+            (λ _. Works self.new s (exchange_of h head.now chunked) []) }
+        ensures cause { HasCause (O.faults sink.old) (O.faults sink.new) result }
+        ensures keeps { O.kept sink.old sink.new }
+        ensures worker { (s : Settings) → IsWorkerFor self.old s → IsWorkerFor self.new s }
+    {
+        match self {
+            Worker::Filters(filter) => filter.begin(decider, head, chunked, sink),
+            Worker::Explains(current) => {
+                *current = Some(decider);
+                Ok(())
+            }
+        }
+    }
+
+    /// Reads the next piece of its body.
+    pub(crate) fn feed<O: Sink>(&mut self, body: &[u8], sink: &mut O) -> Result<(), WriteFault>
+        requires { (s : Settings) × (x : Exchange) × (m : List ℕ) × Works self.old s x m }
+        ensures puts { (s : Settings) (x : Exchange) (m : List ℕ) → Works self.old s x m
+            → Puts result (O.put sink.old) (O.put sink.new) (O.size sink.old) (O.size sink.new)
+            (written_front s.job x m) (written_front s.job x (m ++ body.now))
+            (λ _. Works self.new s x (m ++ body.now)) }
+        ensures cause { HasCause (O.faults sink.old) (O.faults sink.new) result }
+        ensures keeps { O.kept sink.old sink.new }
+        ensures worker { (s : Settings) → IsWorkerFor self.old s → IsWorkerFor self.new s }
+    {
+        match self {
+            Worker::Filters(filter) => filter.feed(body, sink),
+            Worker::Explains(Some(decider)) => {
+                let _progress = decider.feed(body);
+                Ok(())
+            }
+            Worker::Explains(None) => unreachable!(),
+        }
+    }
+
+    /// Ends its body, which is so long; it is the exchange with that number.
+    pub(crate) fn end<O: Sink>(
+        &mut self,
+        number: u64,
+        size: u64,
+        sink: &mut O,
+    ) -> Result<Verdict, WriteFault>
+        requires { (s : Settings) × (x : Exchange) × (m : List ℕ) × Works self.old s x m
+            × (is_some (window_rule_of x.head m) ≡ true) }
+        ensures puts { (s : Settings) (x : Exchange) (m : List ℕ) → Works self.old s x m → size ≡ length m
+            → Puts result (O.put sink.old) (O.put sink.new) (O.size sink.old) (O.size sink.new)
+            (written_front s.job x m) (written_whole s.job number x m) (λ v. IsVerdict x.head m v) }
+        ensures cause { HasCause (O.faults sink.old) (O.faults sink.new) result }
+        ensures keeps { O.kept sink.old sink.new }
+        ensures worker { (s : Settings) → IsWorkerFor self.old s → IsWorkerFor self.new s }
+    {
+        match self {
+            Worker::Filters(filter) => filter.end(sink),
+            Worker::Explains(Some(decider)) => {
+                let verdict = decider.finish();
+                match sink.push(line(number, verdict.rule, verdict.state, size).as_slice()) {
+                    Ok(()) => Ok(verdict),
+                    Err(_) => Err(WriteFault),
+                }
+            }
+            Worker::Explains(None) => unreachable!(),
+        }
+    }
+
+    /// The rule of the head or the window that decides if the body ends here; `None` exactly where none
+    /// holds.
+    pub(crate) fn window_rule(&self) -> Option<Rule>
+        ensures { (s : Settings) (x : Exchange) (m : List ℕ) → Works self.now s x m
+            → result ≡ window_rule_of x.head m }
+    {
+        match self {
+            Worker::Filters(filter) => filter.window_rule(),
+            Worker::Explains(Some(decider)) => decider.window_rule(),
+            Worker::Explains(None) => None,
+        }
+    }
+}

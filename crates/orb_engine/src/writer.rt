@@ -1,0 +1,228 @@
+//! The work on one response, with what it writes gathered.
+//!
+//! What a response writes goes to the outbox while all that it can write fits there, and else to the sink
+//! itself, behind what was gathered: so short exchanges go out many in one push, and a long body goes
+//! straight through.
+ghost use Rattle.std.specs.Prelude.{◌≡◌, ◌≤◌, ◌+◌, ◌*◌, ◌^◌, ◌++◌, ℕ, List, [], length, is_some, true};
+ghost use Rattle.orb_io.specs.Told.{Pushes, HasCause};
+ghost use Rattle.orb_engine.specs.Workers.{IsWorkerFor};
+ghost use Rattle.orb_engine.specs.WorkerLaws.{IsWorkerFor-prop};
+ghost use Rattle.response_rules.specs.Heads.{Head};
+ghost use Rattle.response_rules.specs.Tables.{window_rule_of};
+ghost use Rattle.response_rules.specs.Settled.{is_in_text};
+ghost use Rattle.response_rules.specs.Reads.{IsVerdict};
+ghost use Rattle.body_filter.specs.Exchanges.{Exchange, exchange_of};
+
+use crate::boxes::Outbox;
+use crate::settings::Settings;
+use crate::worker::Worker;
+use body_filter::WriteFault;
+use orb_io::{NoMemory, Sink};
+use response_rules::{Decider, Rule, Verdict};
+use std::alloc::Global;
+
+/// How many bytes of a body are looked at for its type.
+const WINDOW: u64 = 1024;
+
+/// Works on responses, one at a time, and gathers what they write.
+#[derive(Drop)]
+pub(crate) struct Writer {
+    pub(crate) settings: Settings,
+    worker: Worker,
+    outbox: Outbox,
+    // How long the head of the response is, and its body so far.
+    head: u64,
+    body: u64,
+    ghost short: { head ≤ 65536 },
+    ghost few: { body ≤ 2 ^ 62 },
+    ghost worker_for: { IsWorkerFor worker settings } by { IsWorkerFor-prop worker settings },
+}
+
+impl Writer {
+    ghost use Rattle.std.specs.Prelude.{IfOk, OnErr};
+    ghost use Rattle.orb_engine.specs.declared.settings.Settings.{Settings};
+    ghost use Rattle.orb_engine.specs.Boxes.{empty_box};
+    ghost use Rattle.orb_engine.specs.Outputs.{written_front, written_whole};
+    ghost use Rattle.orb_engine.specs.Workers.{IsNewFor};
+    ghost use Rattle.orb_engine.specs.Writing.{IsWriterFor, WriterReads, CanGoOn, CanClose, Passes, IsSameBut, box_of, body_of};
+
+    /// One whose worker does the job of the settings.
+    pub(crate) fn open(alloc: Global, settings: Settings) -> Result<Writer, NoMemory>
+        requires low { 1024 ≤ settings.limit }
+        requires high { settings.limit ≤ 268435456 }
+        ensures { IfOk result (λ w. w.settings ≡ settings) }
+    {
+        let worker = Worker::open(alloc, settings)?;
+        let outbox = Outbox::open(alloc)?;
+        Ok(Writer {
+            settings,
+            worker,
+            outbox,
+            head: 0,
+            body: 0,
+        })
+    }
+
+    /// Drops what was gathered.
+    pub(crate) fn clear(&mut self)
+        ensures empty { box_of self.new ≡ empty_box }
+        ensures same { IsSameBut self.old self.new }
+    {
+        self.outbox.clear();
+    }
+
+    /// Pushes what was gathered.
+    pub(crate) fn flush<O: Sink>(&mut self, output: &mut O) -> Result<(), WriteFault>
+        ensures passes { Passes result (box_of self.old) (box_of self.new) (O.put output.old) (O.put output.new)
+            (O.size output.old) (O.size output.new) [] [] (λ _. box_of self.new ≡ empty_box) }
+        ensures cause { HasCause (O.faults output.old) (O.faults output.new) result }
+        ensures keeps { O.kept output.old output.new }
+        ensures same { IsSameBut self.old self.new }
+    {
+        match push_all(self.outbox.as_slice(), output) {
+            Ok(()) => {
+                self.outbox.clear();
+                Ok(())
+            }
+            Err(fault) => Err(fault),
+        }
+    }
+
+    /// Begins a response with a new decider.
+    pub(crate) fn begin<O: Sink>(
+        &mut self,
+        decider: Decider,
+        head: &[u8],
+        chunked: bool,
+        output: &mut O,
+    ) -> Result<(), WriteFault>
+        requires short { length head.now ≤ 65536 }
+        requires made { (s : Settings) × (h : Head) × IsWriterFor self.old s × IsNewFor decider s h }
+        ensures passes { (s : Settings) (h : Head) → IsWriterFor self.old s → IsNewFor decider s h
+            → Passes result (box_of self.old) (box_of self.new) (O.put output.old) (O.put output.new)
+            (O.size output.old) (O.size output.new)
+            [] (written_front s.job (exchange_of h head.now chunked) [])
+            (λ _. WriterReads self.new s (exchange_of h head.now chunked) []) }
+        ensures cause { HasCause (O.faults output.old) (O.faults output.new) result }
+        ensures keeps { O.kept output.old output.new }
+        ensures settings { self.new.settings ≡ self.old.settings }
+    {
+        self.head = head.len() as u64;
+        self.body = 0;
+        if self.outbox.has_room(self.head) {
+            match self.worker.begin(decider, head, chunked, &mut self.outbox) {
+                Ok(()) => Ok(()),
+                Err(_) => unreachable!(),
+            }
+        } else {
+            match self.flush(output) {
+                Ok(()) => self.worker.begin(decider, head, chunked, output),
+                Err(fault) => Err(fault),
+            }
+        }
+    }
+
+    /// Reads the next piece of its body.
+    pub(crate) fn feed<O: Sink>(&mut self, body: &[u8], output: &mut O) -> Result<(), WriteFault>
+        requires can { CanGoOn self.old }
+        requires few { body_of self.old + length body.now ≤ 2 ^ 62 }
+        ensures passes { (s : Settings) (x : Exchange) (m : List ℕ) → WriterReads self.old s x m
+            → Passes result (box_of self.old) (box_of self.new) (O.put output.old) (O.put output.new)
+            (O.size output.old) (O.size output.new)
+            (written_front s.job x m) (written_front s.job x (m ++ body.now))
+            (λ _. WriterReads self.new s x (m ++ body.now)) }
+        ensures cause { HasCause (O.faults output.old) (O.faults output.new) result }
+        ensures keeps { O.kept output.old output.new }
+        ensures settings { self.new.settings ≡ self.old.settings }
+    {
+        self.body += body.len() as u64;
+        if self.outbox.has_room(self.most()) {
+            match self.worker.feed(body, &mut self.outbox) {
+                Ok(()) => Ok(()),
+                Err(_) => unreachable!(),
+            }
+        } else {
+            match self.flush(output) {
+                Ok(()) => self.worker.feed(body, output),
+                Err(fault) => Err(fault),
+            }
+        }
+    }
+
+    /// Ends its body; it is the exchange with that number.
+    pub(crate) fn end<O: Sink>(
+        &mut self,
+        number: u64,
+        output: &mut O,
+    ) -> Result<Verdict, WriteFault>
+        requires { CanClose self.old }
+        ensures passes { (s : Settings) (x : Exchange) (m : List ℕ) → WriterReads self.old s x m
+            → Passes result (box_of self.old) (box_of self.new) (O.put output.old) (O.put output.new)
+            (O.size output.old) (O.size output.new)
+            (written_front s.job x m) (written_whole s.job number x m)
+            (λ v. IsVerdict x.head m v × IsWriterFor self.new s) }
+        ensures cause { HasCause (O.faults output.old) (O.faults output.new) result }
+        ensures keeps { O.kept output.old output.new }
+        ensures settings { self.new.settings ≡ self.old.settings }
+    {
+        if self.outbox.has_room(self.most()) {
+            match self.worker.end(number, self.body, &mut self.outbox) {
+                Ok(verdict) => Ok(verdict),
+                Err(_) => unreachable!(),
+            }
+        } else {
+            match self.flush(output) {
+                Ok(()) => self.worker.end(number, self.body, output),
+                Err(fault) => Err(fault),
+            }
+        }
+    }
+
+    /// Whether its body fills the window, and no rule of the head or the window decides it.
+    pub(crate) fn is_undecided(&self) -> bool
+        ensures { (s : Settings) (x : Exchange) (m : List ℕ) → WriterReads self.now s x m
+            → result ≡ is_in_text x.head m }
+    {
+        if self.body < WINDOW {
+            return false;
+        }
+        match self.worker.window_rule() {
+            Some(_) => false,
+            None => true,
+        }
+    }
+
+    /// The rule of the head or the window that decides if the body ends here; `None` exactly where none
+    /// holds.
+    pub(crate) fn window_rule(&self) -> Option<Rule>
+        ensures { (s : Settings) (x : Exchange) (m : List ℕ) → WriterReads self.now s x m
+            → result ≡ window_rule_of x.head m }
+    {
+        self.worker.window_rule()
+    }
+
+    /// More bytes than the response and what stands in its place can have.
+    fn most(&self) -> u64
+        requires head { self.now.head ≤ 65536 }
+        requires body { self.now.body ≤ 2 ^ 62 }
+        ensures { result ≡ self.now.head + 2 * self.now.body + 128 }
+    {
+        self.head + 2 * self.body + 128
+    }
+}
+
+/// Pushes the bytes, where there are any.
+fn push_all<O: Sink>(bytes: &[u8], output: &mut O) -> Result<(), WriteFault>
+    ensures bytes { Pushes (O.put output.old) (O.put output.new) (O.size output.old) (O.size output.new)
+        result bytes.now }
+    ensures cause { HasCause (O.faults output.old) (O.faults output.new) result }
+    ensures keeps { O.kept output.old output.new }
+{
+    if bytes.is_empty() {
+        return Ok(());
+    }
+    match output.push(bytes) {
+        Ok(()) => Ok(()),
+        Err(_) => Err(WriteFault),
+    }
+}
