@@ -116,7 +116,7 @@ split-at : (piece : List ℕ) (at : ℕ) → at < length piece
     × (take (at + 1) piece ≡ take at piece ++ (get_or piece at 0 ∷ []))
 split-at piece at within =
     let more : drop at piece ≡ get_or piece at 0 ∷ drop (at + 1) piece =
-        rw add-one (drop-cons piece at 0 within) in
+    rw add-one (drop-cons piece at 0 within) in
     (ap (λ t. take at piece ++ t) (sym more) ∙ take-append-drop at piece, take_more piece at 0 within)
 
 pub output-bad : (s : Settings) (items : List Item) (h : Heads) (sent body : List ℕ) (b : ℕ) (more : List ℕ)
@@ -143,7 +143,7 @@ body-bad incoming u e e' s a k m given piece at h same refuses none =
     let r : Recording = record { items = h.items; tail = cut.BadBody h.heads sent h.body b; more = drop (at + 1) piece } in
     let size = spell_items-length h.items (spell_heads h.heads h.sent) in
     let heads : length (spell_heads h.heads h.sent) ≡ length h.heads.request.bytes + (length h.heads.response.bytes + length h.sent) =
-        simp length-append in
+    simp length-append in
     record {
       pushed = [];
       gained = none;
@@ -162,7 +162,7 @@ body-bad incoming u e e' s a k m given piece at h same refuses none =
           };
           chunked = refuses.chunked;
           bad = λ g front. refuses.bad.bad g (subst (λ (x : List ℕ). IsFront h.heads.response.frame x g)
-          (append_assoc h.sent (take at piece) (b ∷ []) ∙ ap (λ x. h.sent ++ x) (sym next)) front);
+              (append_assoc h.sent (take at piece) (b ∷ []) ∙ ap (λ x. h.sent ++ x) (sym next)) front);
         };
         last = λ never. absurd (cc never);
       };

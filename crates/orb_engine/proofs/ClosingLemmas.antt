@@ -67,7 +67,7 @@ broke-within given box pushed all before owed gave grows (inl front) =
     (subst (λ (t : List ℕ). IsPrefix t (all ++ owed)) (sym gave) (IsPrefix-behind all before owed grows))
 broke-within given box pushed all before owed gave grows (inr (more, front, within)) =
     let same : given ++ (box ++ more) ≡ all ++ (before ++ more) =
-        sym (append_assoc given box more) ∙ ap (λ t. t ++ more) gave ∙ append_assoc all before more in
+    sym (append_assoc given box more) ∙ ap (λ t. t ++ more) gave ∙ append_assoc all before more in
     IsPrefix-trans (given ++ pushed) (given ++ (box ++ more)) (all ++ owed) (IsPrefix-behind given pushed (box ++ more) front)
     (subst (λ (t : List ℕ). IsPrefix t (all ++ owed)) (sym same) (IsPrefix-behind all (before ++ more) owed within))
 

@@ -82,6 +82,7 @@ counts-snoc rules r =
   where
     count-append : (p : Rule → Bool) (xs ys : List Rule) → count_by p (xs ++ ys) ≡ count_by p xs + count_by p ys
     count-append p xs ys = sum_by-append (λ x. cond (p x) 1 0) xs ys
+
     by : (v : Bool) (m n : ℕ) → m ≡ count_allowed rules + (cond v 1 0 + 0) → n ≡ count_blocked rules + (cond (not v) 1 0 + 0)
         → ◌≡◌ {A = Counts} (record { allowed = m; blocked = n }) (count_with (counts_of rules) v)
     by true m n a b = rw (a, b) (pair _ _ _ _ (omega arith) (omega arith))

@@ -79,11 +79,11 @@ few-exchanges incoming e s m given f fits =
     let few = items-few s map.empty f.items [] f.whole in
     let some = head_length-bounds f.heads.request.bytes (length f.heads.request.bytes) f.good.request.head.text.ends in
     let size : length m ≡ length (spell_items f.items []) + length (spell_heads f.heads f.sent) =
-        ap length f.spells ∙ spell_items-length f.items (spell_heads f.heads f.sent) in
+    ap length f.spells ∙ spell_items-length f.items (spell_heads f.heads f.sent) in
     let heads : length (spell_heads f.heads f.sent) ≡ length f.heads.request.bytes + (length f.heads.response.bytes + length f.sent) =
-        simp length-append in
+    simp length-append in
     let counts : e.counts.allowed + e.counts.blocked ≡ length f.items =
-        rw f.common.counts (count-sum (rules_of_items f.items) ∙ rules-length f.items) in
+    rw f.common.counts (count-sum (rules_of_items f.items) ∙ rules-length f.items) in
     omega (arith, f.taken)
 
 -- the body is undecided: nothing of it was written
@@ -106,10 +106,10 @@ unfolding stop_of
 undecided-stops incoming e e' s a b k n m given f same none rule tail =
     let r : Recording = record { items = f.items; tail = cut.Undecided f.heads f.sent f.body; more = [] } in
     let silent : written_front s.job (exchange_of s (table_of f.items) f.heads) f.body ≡ [] =
-        written_front-undecided s.job (exchange_of s (table_of f.items) f.heads) f.body []
-        (ap (window_rule_of (judged_by s (table_of f.items) f.heads)) (append-nil f.body) ∙ rule) in
+    written_front-undecided s.job (exchange_of s (table_of f.items) f.heads) f.body []
+    (ap (window_rule_of (judged_by s (table_of f.items) f.heads)) (append-nil f.body) ∙ rule) in
     let out : given ++ (box_of e.writer).bytes ≡ written_items s map.empty 0 f.items =
-        f.gave ∙ ap (λ t. written_items s map.empty 0 f.items ++ t) silent ∙ append-nil _ in
+    f.gave ∙ ap (λ t. written_items s map.empty 0 f.items ++ t) silent ∙ append-nil _ in
     rw same (record {
       pushed = [];
       gained = none;

@@ -150,11 +150,11 @@ closing-few incoming e s m given h fits =
     let few = items-few s map.empty h.items [] h.whole in
     let some = head_length-bounds h.heads.request.bytes (length h.heads.request.bytes) h.sending.heads.request.head.text.ends in
     let size : length m ≡ length (spell_items h.items []) + length (spell_heads h.heads h.sent) =
-        ap length h.spells ∙ spell_items-length h.items (spell_heads h.heads h.sent) in
+    ap length h.spells ∙ spell_items-length h.items (spell_heads h.heads h.sent) in
     let heads : length (spell_heads h.heads h.sent) ≡ length h.heads.request.bytes + (length h.heads.response.bytes + length h.sent) =
-        simp length-append in
+    simp length-append in
     let counts : e.counts.allowed + e.counts.blocked ≡ length h.items =
-        rw h.common.counts (count-sum (rules_of_items h.items) ∙ rules-length h.items) in
+    rw h.common.counts (count-sum (rules_of_items h.items) ∙ rules-length h.items) in
     omega (arith, h.taken)
 
 none-written : (j : Job) (n : ℕ) (x : Exchange) (m : List ℕ) → window_rule_of x.head m ≡ None → written_whole j n x m ≡ []
@@ -184,7 +184,7 @@ ended-body (Err (outcome.NotBuilt at)) incoming e e' s a b k n m given h to_end 
     let is : is_to_end h.heads.response.frame ≡ true = sym h.receives.to_end ∙ to_end in
     let x = exchange_of s (table_of h.items) h.heads in
     let silent : written_front s.job x h.body ≡ [] =
-        written_front-undecided s.job x h.body [] (ap (window_rule_of (judged_by s (table_of h.items) h.heads)) (append-nil h.body) ∙ closed.1.undecided) in
+    written_front-undecided s.job x h.body [] (ap (window_rule_of (judged_by s (table_of h.items) h.heads)) (append-nil h.body) ∙ closed.1.undecided) in
     rw closed.1.same (record {
       pushed = [];
       gained = closed.1.gained;

@@ -64,7 +64,7 @@ broken-front : (b : BoxState) (a a' : Option (List ℕ)) (k k' : Option ℕ) →
     → (pushed : List ℕ) × Gains a a' k k' pushed × IsPrefix pushed b.bytes
 broken-front b a a' k k' w =
     elim w.within [
-      inl front ↦ (w.pushed, w.gained, front)
+      | inl front ↦ (w.pushed, w.gained, front)
       | inr more ↦ (w.pushed, w.gained, subst (λ (t : List ℕ). IsPrefix w.pushed t) (ap (λ t. b.bytes ++ t) (nil-front more.0 more.2) ∙ append-nil b.bytes) more.1)
     ]
   where
@@ -217,7 +217,7 @@ goes-flushed e e' s a b c j k n m given goes few head media same stage_ place ta
     let r = goes.reads in
     let more = goes.pushed ++ (box_of e.writer).bytes in
     let out : given ++ more ≡ output_of s (open_cut r.items r.tail) false =
-        sym (append_assoc given goes.pushed (box_of e.writer).bytes) ∙ r.gave in
+    sym (append_assoc given goes.pushed (box_of e.writer).bytes) ∙ r.gave in
     let empty = passed.3 in
     record {
       ends = record {

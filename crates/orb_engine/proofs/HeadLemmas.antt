@@ -40,7 +40,7 @@ unfolding head_length
 head_length-behind [] b h = plus_none (head_length b)
 head_length-behind (x ∷ a) b h =
     let same : begins_with_end (x ∷ (a ++ take 3 b)) ≡ begins_with_end (x ∷ (a ++ b)) =
-        ap (λ t. bytes_eq (x ∷ t) head_end_bytes) (take-seam 3 3 a b (omega arith)) in
+    ap (λ t. bytes_eq (x ∷ t) head_end_bytes) (take-seam 3 3 a b (omega arith)) in
     let (here, there) = none_cases (begins_with_end (x ∷ (a ++ take 3 b))) (head_length (a ++ take 3 b)) h in
     rw (← same, here, head_length-behind a b there) (plus_one (length a) (head_length b))
 
@@ -73,14 +73,14 @@ short_or_three : (text piece : List ℕ) → head_length text ≡ None
     → head_length (before_three text ++ take 3 (last_three text ++ piece)) ≡ None
 short_or_three text piece none =
     elim (nat_cases 3 (length text)) [
-      inl long ↦
-        let three : length (last_three text) ≡ 3 = omega (arith, length-drop (length text - 3) text) in
-        let same : take 3 (last_three text ++ piece) ≡ last_three text =
-            ap (λ n. take n (last_three text ++ piece)) (sym three) ∙ take-append_seam (last_three text) piece in
-        rw (same, take-append-drop (length text - 3) text) none
+      | inl long ↦
+          let three : length (last_three text) ≡ 3 = omega (arith, length-drop (length text - 3) text) in
+          let same : take 3 (last_three text ++ piece) ≡ last_three text =
+          ap (λ n. take n (last_three text ++ piece)) (sym three) ∙ take-append_seam (last_three text) piece in
+          rw (same, take-append-drop (length text - 3) text) none
       | inr short ↦
-        let zero_ : length text - 3 ≡ 0 = omega arith in
-        rw zero_ (head_length-short (take 3 (text ++ piece)) (omega (arith, length-take 3 (text ++ piece))))
+          let zero_ : length text - 3 ≡ 0 = omega arith in
+          rw zero_ (head_length-short (take 3 (text ++ piece)) (omega (arith, length-take 3 (text ++ piece))))
     ]
 
 -- the same, with the text's last three bytes in the place of the text
@@ -89,7 +89,7 @@ pub head_length-seam : (text piece : List ℕ) → head_length text ≡ None
     ≡ option_map (λ n. length (before_three text) + n) (head_length (last_three text ++ piece))
 head_length-seam text piece none =
     let parts : text ++ piece ≡ before_three text ++ (last_three text ++ piece) =
-        ap (λ t. t ++ piece) (sym (take-append-drop (length text - 3) text)) ∙ append_assoc (before_three text) (last_three text) piece in
+    ap (λ t. t ++ piece) (sym (take-append-drop (length text - 3) text)) ∙ append_assoc (before_three text) (last_three text) piece in
     rw parts (head_length-behind (before_three text) (last_three text ++ piece) (short_or_three text piece none))
 
 -- the end is in the seam
@@ -100,15 +100,15 @@ ends_in_seam text piece n none found =
     let bounds = head_length-bounds (last_three text ++ take 3 piece) n found in
     let short : length (last_three text) ≤ 3 = omega (arith, length-drop (length text - 3) text) in
     let size : length (last_three text ++ take 3 piece) ≤ length (last_three text) + length piece =
-        omega (arith, length-append (last_three text) (take 3 piece), length-take 3 piece) in
+    omega (arith, length-append (last_three text) (take 3 piece), length-take 3 piece) in
     let parts : (last_three text ++ take 3 piece) ++ drop 3 piece ≡ last_three text ++ piece =
-        append_assoc (last_three text) (take 3 piece) (drop 3 piece) ∙ ap (λ t. last_three text ++ t) (take-append-drop 3 piece) in
+    append_assoc (last_three text) (take 3 piece) (drop 3 piece) ∙ ap (λ t. last_three text ++ t) (take-append-drop 3 piece) in
     let longer : head_length (last_three text ++ piece) ≡ Some n =
-        rw (← parts) (head_length-stays (last_three text ++ take 3 piece) (drop 3 piece) n found) in
+    rw (← parts) (head_length-stays (last_three text ++ take 3 piece) (drop 3 piece) n found) in
     let whole = three_bytes text in
     let sum : length (before_three text) + n ≡ length text + (n - length (last_three text)) = omega arith in
     let at : head_length (text ++ piece) ≡ Some (length (before_three text) + n) =
-        head_length-seam text piece none ∙ ap (option_map (λ k. length (before_three text) + k)) longer in
+    head_length-seam text piece none ∙ ap (option_map (λ k. length (before_three text) + k)) longer in
     ((at ∙ ap Some sum, omega arith, omega arith), omega arith)
 
 -- the end is in the second text, or there is none
@@ -138,21 +138,30 @@ takes_whole text piece front new k used open_ is room (ends, some, within) new_i
     let size : length (take used front) ≡ used = length-take-le used front within in
     let sized : length new ≡ length text + used = ap length new_is ∙ length-append text (take used front) ∙ ap (λ n. length text + n) size in
     let cut : take (length text + used) (text ++ front) ≡ new = take-append-add text front used ∙ sym new_is in
-    let ended : head_length new ≡ Some (length text + used) = rw (← cut) (head_length-alone (text ++ front) (length text + used) ends) in
-    (some, short, new_is ∙ ap (λ t. text ++ t) same, record {
-      ends = ended ∙ ap Some (sym sized);
-      fits = omega arith;
-    })
+    let ended : head_length new ≡ Some (length text + used) = rw (← cut) (head_length-alone (text ++ front) (length text + used) ends) in (
+      some,
+      short,
+      new_is ∙ ap (λ t. text ++ t) same,
+      record {
+        ends = ended ∙ ap Some (sym sized);
+        fits = omega arith;
+      },
+    )
 
 -- a piece behind which the head goes on, or is too long
 pub takes_long : (text piece front new : List ℕ) (k : ℕ) → front ≡ take k piece
     → head_length (text ++ front) ≡ None → new ≡ text ++ front → length new ≡ head_limit
     → TakesHead text new piece taken.Long
-takes_long text piece front new k is none new_is full =
-    (front, drop k piece, sym (take-append-drop k piece) ∙ ap (λ t. t ++ drop k piece) (sym is), new_is, record {
-      open_ = rw new_is none;
-      full = full;
-    })
+takes_long text piece front new k is none new_is full = (
+  front,
+  drop k piece,
+  sym (take-append-drop k piece) ∙ ap (λ t. t ++ drop k piece) (sym is),
+  new_is,
+  record {
+    open_ = rw new_is none;
+    full = full;
+  },
+)
 
 pub takes_open : (text piece front new : List ℕ) (k : ℕ) → front ≡ take k piece → length text + k ≡ head_limit
     → head_length (text ++ front) ≡ None → new ≡ text ++ front → length new ≢ head_limit

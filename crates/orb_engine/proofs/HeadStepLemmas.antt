@@ -485,7 +485,7 @@ new-judged : (asked : Asked) (d : Decider) (f : BodyFrame) (c s : Settings) (hea
     → DeciderHasRead d (head_of s.policy state asks.opaque (status_code well.tree) (pairs_of well.tree.fields) s.limit well.essence) []
 new-judged asked d f c s head state asks state_is asks_is same well =
     let P : MediaState → Bool → Settings → Type 0 =
-        λ m o b. DeciderHasRead d (head_of b.policy m o (status_code well.tree) (pairs_of well.tree.fields) b.limit well.essence) [] in
+    λ m o b. DeciderHasRead d (head_of b.policy m o (status_code well.tree) (pairs_of well.tree.fields) b.limit well.essence) [] in
     subst (λ (b : Settings). P state asks.opaque b) same
     (subst (λ (o : Bool). P state o c) (ap (λ (q : RequestHead). q.opaque) asks_is)
     (subst (λ (m : MediaState). P m asked.asks.opaque c) state_is well.new))
@@ -541,5 +541,5 @@ pub takes-goes : (e : Engine) (s : Settings) (a b : Option (List ℕ)) (k n : Op
     → Takes e s a b k n m given piece used → (used ≤ length piece) × Goes e s a b k n (m ++ take used piece) given
 takes-goes e s a b k n m given piece used t =
     let front : take used piece ≡ t.front =
-        ap (take used) t.is ∙ ap (λ i. take i (t.front ++ t.rest)) (sym t.size_) ∙ take-append_seam t.front t.rest in
+    ap (take used) t.is ∙ ap (λ i. take i (t.front ++ t.rest)) (sym t.size_) ∙ take-append_seam t.front t.rest in
     (omega (arith, ap length t.is, length-append t.front t.rest, t.size_), subst (λ (x : List ℕ). Goes e s a b k n (m ++ x) given) (sym front) t.goes)

@@ -59,9 +59,9 @@ passed-few incoming e s m given piece p few =
     let short = front-short p.heads.response.frame p.sent (p.body ++ piece) p.front in
     let sum = length-append p.body piece in
     let size : length m ≡ length (spell_items p.items []) + length (spell_heads p.heads p.sent) =
-        ap length p.spells ∙ spell_items-length p.items (spell_heads p.heads p.sent) in
+    ap length p.spells ∙ spell_items-length p.items (spell_heads p.heads p.sent) in
     let heads : length (spell_heads p.heads p.sent) ≡ length p.heads.request.bytes + (length p.heads.response.bytes + length p.sent) =
-        simp length-append in
+    simp length-append in
     omega (arith, p.taken, p.writer.body)
 
 pub passed-fills : (incoming : Incoming) (e e' : Engine) (s : Settings) (a b : Option (List ℕ)) (k n : Option ℕ)

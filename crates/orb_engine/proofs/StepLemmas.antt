@@ -81,25 +81,29 @@ pub seen-body : (s : Settings) (m : List ℕ) (items : List Item) (h : Heads) (s
     → IsSeen s m items (written_items s map.empty 0 items ++ written_front s.job (exchange_of s (table_of items) h) body)
 seen-body s m items h sent body u spells whole good front reads =
     elim (whole-or-not u h.response.frame sent body reads.stands) [
-      inl ended ↦ by_rule (window_rule_of (judged_by s (table_of items) h) body) refl ended
+      | inl ended ↦ by_rule (window_rule_of (judged_by s (table_of items) h) body) refl ended
       | inr unfinished ↦ by_text (is_in_text (judged_by s (table_of items) h) body) refl unfinished
     ]
   where
-
     spelled : m ≡ spell_items items (spell_heads h (sent ++ []))
     spelled = spells ∙ ap (λ t. spell_items items (spell_heads h t)) (sym (append-nil sent))
+
     undecided : cut.IsUndecided s (table_of items) h sent body → window_rule_of (judged_by s (table_of items) h) body ≡ None
         → IsSeen s m items (written_items s map.empty 0 items ++ written_front s.job (exchange_of s (table_of items) h) body)
     undecided tail none = record {
       recording = record { items = items; tail = cut.Undecided h sent body; more = [] };
       cut = record { spells = spelled; items = whole; tail = tail; last = λ _. refl };
-      within = ([], sym (append-nil _ ∙ ap (λ t. written_items s map.empty 0 items ++ t)
-      (written_front-undecided s.job (exchange_of s (table_of items) h) body []
-      (ap (window_rule_of (judged_by s (table_of items) h)) (append-nil body) ∙ none))
-      ∙ append-nil _ ∙ sym (output-undecided s items h sent body [] false)));
+      within = (
+        [],
+        sym (append-nil _ ∙ ap (λ t. written_items s map.empty 0 items ++ t)
+            (written_front-undecided s.job (exchange_of s (table_of items) h) body []
+            (ap (window_rule_of (judged_by s (table_of items) h)) (append-nil body) ∙ none))
+            ∙ append-nil _ ∙ sym (output-undecided s items h sent body [] false)),
+      );
       others = [];
       are = sym (append-nil items);
     }
+
     by_rule : (o : Option Rule) → window_rule_of (judged_by s (table_of items) h) body ≡ o → IsWhole h.response.frame sent
         → IsSeen s m items (written_items s map.empty 0 items ++ written_front s.job (exchange_of s (table_of items) h) body)
     by_rule None is ended = undecided (record { heads = good; front = front; undecided = inr (ended, is) }) is
@@ -119,6 +123,7 @@ seen-body s m items h sent body u spells whole good front reads =
           others = i ∷ [];
           are = refl;
         }
+
     by_text : (b : Bool) → is_in_text (judged_by s (table_of items) h) body ≡ b → (IsWhole h.response.frame sent → ⊥)
         → IsSeen s m items (written_items s map.empty 0 items ++ written_front s.job (exchange_of s (table_of items) h) body)
     by_text true is unfinished =

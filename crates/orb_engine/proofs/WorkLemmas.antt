@@ -72,12 +72,14 @@ pub filter-feeds : {T : Type 0} (r : Result T WriteFault) (f : Filter) (a b : Op
     (s : Settings) (x : Exchange) (m given : List ℕ) → (s.job ≡ job.Filter) × (limit_of f ≡ s.limit)
     → OnOk r (Feeds f a b k n x m given) → OnErr r (Falls a b k n given (front_of x m))
     → Puts r a b k n given (written_front s.job x m) (λ _. Works (worker.Filters f) s x m)
-filter-feeds (Ok v) f a b k n s x m given is_for ok err =
-    (record {
-      more = ok.more;
-      gained = ok.gained;
-      is = ok.reads.gave ∙ sym (front-filter s.job x m is_for.0);
-    }, record { is_for = is_for; reads = (given ++ ok.more, ok.reads) })
+filter-feeds (Ok v) f a b k n s x m given is_for ok err = (
+  record {
+    more = ok.more;
+    gained = ok.gained;
+    is = ok.reads.gave ∙ sym (front-filter s.job x m is_for.0);
+  },
+  record { is_for = is_for; reads = (given ++ ok.more, ok.reads) },
+)
 filter-feeds (Err e) f a b k n s x m given is_for ok err =
     rw (front-filter s.job x m is_for.0) err
 

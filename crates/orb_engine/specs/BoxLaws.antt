@@ -9,9 +9,9 @@ pub IsBehind-twice : (b c d : BoxState) → IsBehind b c → IsBehind c d → Is
 IsBehind-twice b c d first second = record {
   more = omega (arith, first.more, second.more);
   full = elim second.full [
-    inr full ↦ inr full
+    | inr full ↦ inr full
     | inl same ↦ elim first.full [
-      inl before ↦ inl (same ∙ before)
+      | inl before ↦ inl (same ∙ before)
       | inr full ↦ inr (omega (arith, full, second.more))
     ]
   ];

@@ -10,8 +10,8 @@ use arrayvec::ArrayVec;
 use header_values::{FieldSpan, Scratch};
 use http_exchange::{BadKind, BodyFrame, RequestHead, head_end, read_request, read_response};
 use orb_io::NoMemory;
-use std::alloc::Global;
 use response_rules::Decider;
+use std::alloc::Global;
 use std::marker::Model;
 
 /// The most bytes of a head.

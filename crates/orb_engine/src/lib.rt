@@ -2,7 +2,7 @@
 //!
 //! `specs/Recording` says which bytes are a recording: whole exchanges one behind the other, and a tail that may
 //! go on to be one or is refused. `specs/Ends` says where it ends, `specs/Outputs` what is written of it, and
-//! `specs/Counts` which exchanges are counted: all over the whole list of bytes. The laws in [`laws`] are what
+//! `specs/Counts` which exchanges are counted: all over the whole list of bytes. Its laws (`laws`) are what
 //! a caller needs besides: bytes are one recording, a refusal stands, and output only grows.
 //!
 //! An [`Engine`] takes a recording in pieces, cut anywhere, or runs over a source and a sink. Behind each

@@ -8,18 +8,21 @@ returns-else-piece-room-clause-bytes c =
     let view : c.self.inside.bytes.items ≡ c.args.self.now.bytes = ap (λ (b : BoxState). b.bytes) c.self.view_is in
     let front = c.front_of.result.now in
     let bytes : c.append.new.text.items ≡ c.args.self.now.bytes ++ c.front_of.result.now =
-        c.append.ensures.items ∙ ap (λ t. t ++ c.front_of.result.now) view in
-    (front, (drop (16384 - c.len-room.result) c.args.piece.now, rw c.front_of.ensures.bytes (sym (take-append-drop _ c.args.piece.now))), record {
-      bytes = bytes;
-      number = omega (arith, ap length bytes, length-append c.args.self.now.bytes c.front_of.result.now);
-    })
+    c.append.ensures.items ∙ ap (λ t. t ++ c.front_of.result.now) view in (
+      front,
+      (drop (16384 - c.len-room.result) c.args.piece.now, rw c.front_of.ensures.bytes (sym (take-append-drop _ c.args.piece.now))),
+      record {
+        bytes = bytes;
+        number = omega (arith, ap length bytes, length-append c.args.self.now.bytes c.front_of.result.now);
+      },
+    )
 
 pub returns-else-piece-room-clause-keeps : goal.returns-else-piece-room-clause-keeps
 unfolding box_room
 returns-else-piece-room-clause-keeps c =
     let view : c.self.inside.bytes.items ≡ c.args.self.now.bytes = ap (λ (b : BoxState). b.bytes) c.self.view_is in
     let bytes : c.append.new.text.items ≡ c.args.self.now.bytes ++ c.front_of.result.now =
-        c.append.ensures.items ∙ ap (λ t. t ++ c.front_of.result.now) view in
+    c.append.ensures.items ∙ ap (λ t. t ++ c.front_of.result.now) view in
     record {
       more = omega (arith, ap length bytes, length-append c.args.self.now.bytes c.front_of.result.now);
       full = inr (omega (arith, ap length view, ap length bytes, length-append c.args.self.now.bytes c.front_of.result.now, ap length c.front_of.ensures.bytes, length-take (16384 - c.len-room.result) c.args.piece.now));

@@ -8,10 +8,14 @@ pub begin_body-requires-clause-can : goal.begin_body-requires-clause-can
 begin_body-requires-clause-can g c =
     let (s, m, given, r) = c.requires.can in
     let t = c.in-Whole.ensures in
-    let h = open-response c.args.asked c.args.self.now s m given r c.requires.answering in
-    (s, _, given, response-whole c.args.asked c.args.self.now _ s m given (take c.in-Whole.used c.args.piece.now) h
-    (record { media = refl; place = refl; counts = refl; told = refl; writer = refl }) t.2 t.3
-    (omega (arith, length-take-le c.in-Whole.used c.args.piece.now t.1)))
+    let h = open-response c.args.asked c.args.self.now s m given r c.requires.answering in (
+      s,
+      _,
+      given,
+      response-whole c.args.asked c.args.self.now _ s m given (take c.in-Whole.used c.args.piece.now) h
+          (record { media = refl; place = refl; counts = refl; told = refl; writer = refl }) t.2 t.3
+          (omega (arith, length-take-le c.in-Whole.used c.args.piece.now t.1)),
+    )
 
 pub returns-in-Open-clause-steps : goal.returns-in-Open-clause-steps
 returns-in-Open-clause-steps g c = λ s m given r.

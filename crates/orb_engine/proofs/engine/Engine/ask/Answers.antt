@@ -9,9 +9,16 @@ begin_answer-requires c =
     let (s, m, given, r) = c.requires.can in
     let t = c.in-Whole.ensures in
     let h = open-request c.args.self.now s m given r c.requires.asking in
-    record { can = (s, _, given, request-whole c.args.self.now _ s m given (take c.in-Whole.used c.args.piece.now) h
-    (record { media = refl; place = refl; counts = refl; told = refl; writer = refl }) t.2 t.3
-    (omega (arith, length-take-le c.in-Whole.used c.args.piece.now t.1))) }
+    record {
+      can = (
+        s,
+        _,
+        given,
+        request-whole c.args.self.now _ s m given (take c.in-Whole.used c.args.piece.now) h
+            (record { media = refl; place = refl; counts = refl; told = refl; writer = refl }) t.2 t.3
+            (omega (arith, length-take-le c.in-Whole.used c.args.piece.now t.1)),
+      );
+    }
 
 pub returns-in-Open-clause-steps : goal.returns-in-Open-clause-steps
 returns-in-Open-clause-steps c = λ s m given put size r fits.

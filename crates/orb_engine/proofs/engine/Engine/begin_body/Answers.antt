@@ -5,9 +5,13 @@ use Rattle.orb_engine.proofs.engine.Engine.begin_body.Goals as goal
 
 pub begin_sending-requires-clause-can : goal.begin_sending-requires-clause-can
 begin_sending-requires-clause-can g c =
-    let (s, m, given, h) = c.requires.can in
-    (s, m, given, response-good c.args.asked c.in-Ok.decider c.in-Ok.frame c.args.self.now _ s m given h
-    (record { media = refl; place = refl; counts = refl; told = refl; writer = refl }) c.response.ensures.same refl c.in-Ok.ensures.reads)
+    let (s, m, given, h) = c.requires.can in (
+      s,
+      m,
+      given,
+      response-good c.args.asked c.in-Ok.decider c.in-Ok.frame c.args.self.now _ s m given h
+          (record { media = refl; place = refl; counts = refl; told = refl; writer = refl }) c.response.ensures.same refl c.in-Ok.ensures.reads,
+    )
 
 pub returns-in-Ok-clause-settles : goal.returns-in-Ok-clause-settles
 returns-in-Ok-clause-settles g c = λ s m given h.

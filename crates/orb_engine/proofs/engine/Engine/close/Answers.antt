@@ -17,9 +17,11 @@ returns-in-Some-clause-closes g c = λ s items h body given k.
     (c.close_decided.ensures.closes s items h body given k (some-of _ _ (sym (c.window_rule.ensures s _ body k.writer) ∙ c.in-Some.is)))
 
 pub returns-in-None-clause-closes : goal.returns-in-None-clause-closes
-returns-in-None-clause-closes g c = λ s items h body given k.
-    (refl, record {
-      same = refl;
-      gained = Gains-none _ _ (g.met.O.Sink.number_fits c.args.output.now);
-      undecided = sym (c.window_rule.ensures s _ body k.writer) ∙ c.in-None.is;
-    })
+returns-in-None-clause-closes g c = λ s items h body given k. (
+  refl,
+  record {
+    same = refl;
+    gained = Gains-none _ _ (g.met.O.Sink.number_fits c.args.output.now);
+    undecided = sym (c.window_rule.ensures s _ body k.writer) ∙ c.in-None.is;
+  },
+)

@@ -16,10 +16,14 @@ settle_body-requires-clause-can g c =
     let (s, m, given, h) = c.requires.can in
     let b = in-body c.args.self.now.stage c.args.self.now s m given c.args.body.now h in
     let p = b.passes in
-    let (more, writes, is, reads) = c.in-Ok.ensures.passes s (exchange_of s (table_of p.items) p.heads) p.body p.writer in
-    (s, m, _, fills-at c.args.self.now.stage b.incoming _ s m _ b.is
-    (passed-fills b.incoming c.args.self.now _ s _ _ _ _ m given c.args.body.now more p
-    (record { media = refl; place = refl; taken = refl; counts = refl; told = refl; settings = c.in-Ok.ensures.settings }) writes is reads))
+    let (more, writes, is, reads) = c.in-Ok.ensures.passes s (exchange_of s (table_of p.items) p.heads) p.body p.writer in (
+      s,
+      m,
+      _,
+      fills-at c.args.self.now.stage b.incoming _ s m _ b.is
+          (passed-fills b.incoming c.args.self.now _ s _ _ _ _ m given c.args.body.now more p
+          (record { media = refl; place = refl; taken = refl; counts = refl; told = refl; settings = c.in-Ok.ensures.settings }) writes is reads),
+    )
 
 pub returns-in-Ok-clause-settles : goal.returns-in-Ok-clause-settles
 returns-in-Ok-clause-settles g c = λ s m given h.

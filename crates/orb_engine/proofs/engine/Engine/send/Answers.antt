@@ -29,10 +29,14 @@ pass-requires-clause-can g c =
     let (i, is) = in-sending c.args.self.now.stage c.requires.sending in
     let u = c.in-Got.ensures i is in
     let h = open-body i c.args.self.now s m given r is in
-    let gets = u.answers h.heads.response.frame h.sent h.body h.receives.unframer in
-    (s, m ++ take c.in-Got.used c.args.piece.now, given, passes-at _ u.incoming _ s _ given c.in-Got.body.now u.is
-    (body-got i u.incoming c.args.self.now _ s m given c.args.piece.now c.in-Got.body.now c.in-Got.used h
-    (record { media = refl; place = refl; counts = refl; told = refl; writer = refl }) gets u.to_end u.id u.place refl))
+    let gets = u.answers h.heads.response.frame h.sent h.body h.receives.unframer in (
+      s,
+      m ++ take c.in-Got.used c.args.piece.now,
+      given,
+      passes-at _ u.incoming _ s _ given c.in-Got.body.now u.is
+          (body-got i u.incoming c.args.self.now _ s m given c.args.piece.now c.in-Got.body.now c.in-Got.used h
+          (record { media = refl; place = refl; counts = refl; told = refl; writer = refl }) gets u.to_end u.id u.place refl),
+    )
 
 pub returns-in-Bad-clause-steps : goal.returns-in-Bad-clause-steps
 returns-in-Bad-clause-steps g c = λ s m given r.

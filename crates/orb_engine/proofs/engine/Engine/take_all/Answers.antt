@@ -41,7 +41,7 @@ steps-preserved g c =
       goes = λ s m given r.
           let before = i.goes s m given r in
           let (within, after) = takes-goes _ s _ _ _ _ (m ++ i.front) (given ++ before.pushed) c.steps.rest.now c.in-Ok.used
-              (c.in-Ok.ensures.steps s (m ++ i.front) (given ++ before.pushed) before.reads) in
+          (c.in-Ok.ensures.steps s (m ++ i.front) (given ++ before.pushed) before.reads) in
           goes-at c.step.new.self s _ _ _ _ _ _ given (append_assoc m i.front piece)
           (goes-behind c.step.new.self s _ _ _ _ _ _ ((m ++ i.front) ++ piece) given before.pushed before.gained after);
       calm = c.in-Ok.ensures.causes ∙ i.calm;

@@ -12,7 +12,7 @@ returns-in-Some c =
     let view : c.self.inside.bytes.items ≡ c.args.self.now = c.self.view_is in
     let room : length c.args.self.now + (65536 - c.len.result) ≡ 65536 = omega (arith, ap length view) in
     let ends : EndsBehind c.args.self.now c.front_of-front.result.now (Some c.in-Some.used) =
-        rw (← view, ← c.as_slice.ensures.value) c.in-Some.ensures in
+    rw (← view, ← c.as_slice.ensures.value) c.in-Some.ensures in
     takes_whole c.args.self.now c.args.piece.now c.front_of-front.result.now _ _ c.in-Some.used c.requires
     c.front_of-front.ensures.bytes room ends
     (c.append.ensures.items ∙ rw (view, c.split_at.ensures.front) refl)
@@ -23,11 +23,11 @@ returns-after-len-eq-HEAD c =
     let view : c.self.inside.bytes.items ≡ c.args.self.now = c.self.view_is in
     let room : length c.args.self.now + (65536 - c.len.result) ≡ 65536 = omega (arith, ap length view) in
     let none : head_length (c.args.self.now ++ c.front_of-front.result.now) ≡ None =
-        rw (← view, ← c.as_slice.ensures.value) c.in-None.ensures in
+    rw (← view, ← c.as_slice.ensures.value) c.in-None.ensures in
     let new_is = c.append-in-None.ensures.items ∙ ap (λ t. t ++ c.front_of-front.result.now) view in
     elim c.if-len-eq-HEAD.branch [
-      then-len-eq-HEAD w ↦ rw w.result-is (takes_long c.args.self.now c.args.piece.now c.front_of-front.result.now _ _
-      c.front_of-front.ensures.bytes none new_is (omega arith))
+      | then-len-eq-HEAD w ↦ rw w.result-is (takes_long c.args.self.now c.args.piece.now c.front_of-front.result.now _ _
+          c.front_of-front.ensures.bytes none new_is (omega arith))
       | else-len-eq-HEAD w ↦ rw w.result-is (takes_open c.args.self.now c.args.piece.now c.front_of-front.result.now _ _
-      c.front_of-front.ensures.bytes room none new_is (λ full. w.if-len-eq-HEAD.false (omega (arith, full))))
+          c.front_of-front.ensures.bytes room none new_is (λ full. w.if-len-eq-HEAD.false (omega (arith, full))))
     ]

@@ -22,7 +22,7 @@ returns-in-Ok-clause-puts g c = λ s x m works size.
     let reads = reads-explain c.args.self.now _ x m self_is works.reads in
     let verdict = c.finish-verdict.ensures.verdict x.head m reads in
     let owed = line-written c.args.number c.args.size s x m c.finish-verdict.result c.as_slice.result.now it verdict size
-        (c.as_slice.ensures.value ∙ c.line.ensures) in
+    (c.as_slice.ensures.value ∙ c.line.ensures) in
     (line-put _ _ _ _ _ c.as_slice.result.now _ (front-explain s.job x m it) owed (c.in-Ok.ensures.bytes), verdict)
 
 pub returns-in-Err-clause-puts : goal.returns-in-Err-clause-puts
@@ -32,5 +32,5 @@ returns-in-Err-clause-puts g c = λ s x m works size.
     let reads = reads-explain c.args.self.now _ x m self_is works.reads in
     let verdict = c.finish-verdict.ensures.verdict x.head m reads in
     let owed = line-written c.args.number c.args.size s x m c.finish-verdict.result c.as_slice.result.now it verdict size
-        (c.as_slice.ensures.value ∙ c.line.ensures) in
+    (c.as_slice.ensures.value ∙ c.line.ensures) in
     line-broken _ _ _ _ _ c.as_slice.result.now _ (front-explain s.job x m it) owed c.in-Err.ensures.bytes

@@ -19,9 +19,11 @@ pub returns-in-Explains-Some-clause-puts : goal.returns-in-Explains-Some-clause-
 returns-in-Explains-Some-clause-puts g c = λ s x m works.
     let self_is = c.in-Explains-Some.is ∙ ap worker.Explains c.in-Explains-Some.field-0-is in
     let it = for-explain c.args.self.now _ s self_is works.is_for in
-    let reads = reads-explain c.args.self.now _ x m self_is works.reads in
-    (makes-none _ _ _ _ (Gains-none _ _ (g.met.O.Sink.number_fits c.args.sink.now))
-    (front-explain s.job x m it ∙ sym (front-explain s.job x (m ++ c.args.body.now) it)), record {
-      is_for = it;
-      reads = c.feed-progress.ensures.reads x.head m reads;
-    })
+    let reads = reads-explain c.args.self.now _ x m self_is works.reads in (
+      makes-none _ _ _ _ (Gains-none _ _ (g.met.O.Sink.number_fits c.args.sink.now))
+          (front-explain s.job x m it ∙ sym (front-explain s.job x (m ++ c.args.body.now) it)),
+      record {
+        is_for = it;
+        reads = c.feed-progress.ensures.reads x.head m reads;
+      },
+    )

@@ -23,20 +23,25 @@ pub returns-in-Ok-clause-passes : goal.returns-in-Ok-clause-passes
 returns-in-Ok-clause-passes g c = λ s x m reads.
     let (made, verdict) = c.in-Ok.ensures.puts s x m reads.works reads.body in
     boxed-ok _ (box_of c.args.self.now) c.end.new.sink _ _ (written_front s.job x m) (written_whole s.job c.args.number x m) made c.in-Ok.ensures.cause reads.calm
-    (Gains-none _ _ (g.met.O.Sink.number_fits c.args.output.now))
-    (verdict, record {
-      worker = c.in-Ok.ensures.worker s reads.works.is_for;
-      calm = c.in-Ok.ensures.cause ∙ reads.calm;
-    })
+    (Gains-none _ _ (g.met.O.Sink.number_fits c.args.output.now)) (
+      verdict,
+      record {
+        worker = c.in-Ok.ensures.worker s reads.works.is_for;
+        calm = c.in-Ok.ensures.cause ∙ reads.calm;
+      },
+    )
 
 pub returns-in-Ok-flush-clause-passes : goal.returns-in-Ok-flush-clause-passes
 returns-in-Ok-flush-clause-passes g c = λ s x m reads.
     let same = c.flush.ensures.same in
     let works = subst (λ (w : Worker). Works w s x m) (sym same.worker) reads.works in
-    direct _ _ (λ _ verdict. (verdict, record {
-      worker = c.end-in-Ok-flush.ensures.worker s works.is_for;
-      calm = ap (λ b. b.faults) (c.in-Ok-flush.ensures.passes.3);
-    })) c.end-in-Ok-flush.result (box_of c.args.self.now) c.flush.new.self.outbox c.flush.new.self.outbox _ _ _ _ _ _ (written_front s.job x m)
+    direct _ _ (λ _ verdict. (
+      verdict,
+      record {
+        worker = c.end-in-Ok-flush.ensures.worker s works.is_for;
+        calm = ap (λ b. b.faults) (c.in-Ok-flush.ensures.passes.3);
+      },
+    )) c.end-in-Ok-flush.result (box_of c.args.self.now) c.flush.new.self.outbox c.flush.new.self.outbox _ _ _ _ _ _ (written_front s.job x m)
     (written_whole s.job c.args.number x m) c.in-Ok-flush.ensures.passes (c.end-in-Ok-flush.ensures.puts s x m works (same.body ∙ reads.body)) refl
 
 pub returns-in-Err-flush-clause-passes : goal.returns-in-Err-flush-clause-passes
