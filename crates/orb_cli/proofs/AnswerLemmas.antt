@@ -1,53 +1,101 @@
--- From where a recording ends to what the answer says.
-use Rattle.std.proofs.Common.{◌≡◌, ℕ, ◌<◌, ◌≤◌, Bool, true, false, nat_lt, List, [], ◌∷◌, ◌++◌, length, take, refl, sym}
-use Rattle.orb_io.specs.Told.{IsPrefix}
+-- From what the engine answers to what the program does.
+use Rattle.std.proofs.Common.{◌≡◌, ℕ, Bool, true, false, List, [], ◌++◌, Option, Some, refl, sym, ap, ◌∙◌, subst}
+use Rattle.std.proofs.lemmas.List.{append-nil}
+use Rattle.orb_io.specs.Told.{Gains, IsPrefix}
+use Rattle.orb_io.proofs.ToldLemmas.{IsPrefix-trans}
+use Rattle.orb_engine.specs.declared.settings.Settings.{Settings}
+use Rattle.orb_engine.specs.Recording.{Recording, IsRecording}
+use Rattle.orb_engine.specs.Ends as ends
+use Rattle.orb_engine.specs.Ends.{End, stop_of}
+use Rattle.orb_engine.specs.Outputs.{output_of}
+use Rattle.orb_engine.proofs.AnswerLaws.{one-output, output-longer}
+use Rattle.orb_engine.specs.Runs.{Ends, Fails, RunAnswers, Ran as EngineRan}
+use Rattle.orb_engine.specs.declared.engine.Engine.{Engine}
+use Rattle.orb_engine.specs.declared.outcome.EngineOutcome.{EngineOutcome}
+use Rattle.orb_engine.specs.declared.outcome.EngineOutcome.TheVariants.{Done, Bad, Cut, HeadLimit, MediaFull, NotBuilt, Endless, ReadFault, WriteFault}
 use Rattle.orb_cli.specs.declared.outcome.Outcome.{Outcome}
-use Rattle.orb_cli.specs.declared.outcome.Outcome.TheVariants.{Done, Usage, Bad, Cut, HeadLimit, MediaFull, NotBuilt, Endless, ReadFault, WriteFault, NoMemory}
-use Rattle.orb_cli.specs.Recording as recording
-use Rattle.orb_cli.specs.Recording.{End, IsRecording, recording_limit}
-use Rattle.orb_cli.specs.Answer.{AtEnd, IsFilterAnswer}
-use Rattle.orb_cli.proofs.RecordingLemmas.{IsRecording-too_long}
+use Rattle.orb_cli.specs.Words.{Judge}
+use Rattle.orb_cli.specs.Answer.{Gives, FallsShort, IsJudgeAnswer, Ran}
+use Rattle.orb_cli.specs.Outcomes.{outcome_of}
 
--- the input has ended, or more was read than is built
-abbrev pub IsSettled : List ℕ → Bool → Type 0
-IsSettled read ended = ended ≡ false → nat_lt recording_limit (length read) ≡ true
+-- the sink gained what the answer says was written
+pub record Judges (s : Settings) (put put' : Option (List ℕ)) (size size' : Option ℕ) (read : List ℕ) (ended : Bool)
+    (answer : Outcome) : Type 0 where
+  pub wrote : List ℕ
+  pub gained : Gains put put' size size' wrote
+  pub says : IsJudgeAnswer s read ended wrote answer
 
--- a recording that is judged as ended is what it would be in any case
-pub IsRecording-settled : (read out : List ℕ) (stop : End) (ended : Bool) → IsSettled read ended
-    → IsRecording read true out stop → IsRecording read ended out stop
-IsRecording-settled read out stop true settled is = is
-IsRecording-settled read out stop false settled is = IsRecording-too_long read out stop false (settled refl) is
+Gives-ends : (e : Engine) (s : Settings) (put put' : Option (List ℕ)) (size size' : Option ℕ) (read : List ℕ) (ended : Bool)
+    (P : End → Type 0) (stop : End) (h : Ends e s put put' size size' read [] ended P)
+    → stop_of s h.recording ended ≡ stop → Gives s read ended h.more stop
+Gives-ends e s put put' size size' read ended P stop h is =
+    record { recording = h.recording; cut = h.cut; stops = is; output = h.gave }
 
-pub IsFilterAnswer-end : (read out : List ℕ) (ended : Bool) (answer : Outcome) → IsSettled read ended
-    → AtEnd answer (IsRecording read true out) → IsFilterAnswer read ended out answer
-IsFilterAnswer-end read out ended Done settled is = IsRecording-settled read out recording.Done ended settled is
-IsFilterAnswer-end read out ended Usage settled is = is
-IsFilterAnswer-end read out ended (Bad kind place) settled is = IsRecording-settled read out (recording.Bad kind place) ended settled is
-IsFilterAnswer-end read out ended (Cut place) settled is = IsRecording-settled read out (recording.Cut place) ended settled is
-IsFilterAnswer-end read out ended (HeadLimit place) settled is = is
-IsFilterAnswer-end read out ended (MediaFull place) settled is = is
-IsFilterAnswer-end read out ended (NotBuilt place) settled is = IsRecording-settled read out (recording.NotBuilt place) ended settled is
-IsFilterAnswer-end read out ended Endless settled is = is
-IsFilterAnswer-end read out ended ReadFault settled is = absurd is
-IsFilterAnswer-end read out ended WriteFault settled is = absurd is
-IsFilterAnswer-end read out ended NoMemory settled is = absurd is
+-- what begins the output of the first bytes begins that of all of them
+within_all : (s : Settings) (read seen unseen wrote : List ℕ) (ended : Bool) (a r : Recording)
+    → read ≡ seen ++ unseen → (ended ≡ true → unseen ≡ []) → IsRecording s seen a → IsPrefix wrote (output_of s a ended)
+    → IsRecording s read r → IsPrefix wrote (output_of s r ended)
+within_all s read seen unseen wrote false a r are all x within y =
+    let longer : IsRecording s (seen ++ unseen) r = subst (λ m. IsRecording s m r) are y in
+    IsPrefix-trans wrote (output_of s a false) (output_of s r false) within (output-longer s seen unseen a r x longer false)
+within_all s read seen unseen wrote true a r are all x within y =
+    let none : unseen ≡ [] = all refl in
+    let same : read ≡ seen = are ∙ ap (λ l. seen ++ l) none ∙ append-nil seen in
+    subst (λ out. IsPrefix wrote out) (one-output s seen a r x (subst (λ m. IsRecording s m r) same y) true) within
 
--- an answer that is an end is some end
-pub AtEnd-some : (answer : Outcome) (P : End → Type 0) → AtEnd answer P → (stop : End) × P stop
-AtEnd-some Done P is = (recording.Done, is)
-AtEnd-some Usage P is = absurd is
-AtEnd-some (Bad kind place) P is = (recording.Bad kind place, is)
-AtEnd-some (Cut place) P is = (recording.Cut place, is)
-AtEnd-some (HeadLimit place) P is = absurd is
-AtEnd-some (MediaFull place) P is = absurd is
-AtEnd-some (NotBuilt place) P is = (recording.NotBuilt place, is)
-AtEnd-some Endless P is = absurd is
-AtEnd-some ReadFault P is = absurd is
-AtEnd-some WriteFault P is = absurd is
-AtEnd-some NoMemory P is = absurd is
+FallsShort-fails : (e : Engine) (s : Settings) (put put' : Option (List ℕ)) (size size' : Option ℕ) (read : List ℕ) (ended : Bool)
+    (h : Fails e s put put' size size' read [] ended) → FallsShort s read ended h.more
+FallsShort-fails e s put put' size size' read ended h = record {
+  seen = h.seen;
+  unseen = h.unseen;
+  are = h.all;
+  recording = h.recording;
+  cut = h.cut;
+  within = h.within;
+  of_all = λ r is. within_all s read h.seen h.unseen h.more ended h.recording r h.all h.all_seen h.cut h.within is;
+}
 
-pub IsFilterAnswer-write_fault : (read out wrote : List ℕ) (ended : Bool) (answer : Outcome) → IsSettled read ended
-    → AtEnd answer (IsRecording read true out) → IsPrefix wrote out → IsFilterAnswer read ended wrote WriteFault
-IsFilterAnswer-write_fault read out wrote ended answer settled is front =
-    let some = AtEnd-some answer (IsRecording read true out) is in
-    (out, some.0, IsRecording-settled read out some.0 ended settled some.1, front)
+pub Judges-run : (o : EngineOutcome) (e : Engine) (s : Settings) (put put' : Option (List ℕ)) (size size' : Option ℕ)
+    (read : List ℕ) (ended : Bool) → RunAnswers o e s put put' size size' read ended
+    → Judges s put put' size size' read ended (outcome_of o)
+Judges-run Done e s put put' size size' read ended h =
+    record { wrote = h.more; gained = h.gained; says = Gives-ends e s put put' size size' read ended _ ends.Done h h.stop }
+Judges-run (Bad kind place) e s put put' size size' read ended h =
+    record { wrote = h.more; gained = h.gained; says = Gives-ends e s put put' size size' read ended _ (ends.Bad kind place) h h.stop }
+Judges-run (Cut place) e s put put' size size' read ended h =
+    record { wrote = h.more; gained = h.gained; says = Gives-ends e s put put' size size' read ended _ (ends.Cut place) h h.stop }
+Judges-run (HeadLimit place) e s put put' size size' read ended h =
+    record { wrote = h.more; gained = h.gained; says = Gives-ends e s put put' size size' read ended _ (ends.HeadLimit place) h h.stop }
+Judges-run (MediaFull place) e s put put' size size' read ended h =
+    record { wrote = h.more; gained = h.gained; says = Gives-ends e s put put' size size' read ended _ (ends.MediaFull place) h h.stop }
+Judges-run (NotBuilt place) e s put put' size size' read ended h =
+    record { wrote = h.more; gained = h.gained; says = Gives-ends e s put put' size size' read ended _ (ends.NotBuilt place) h h.stop }
+Judges-run Endless e s put put' size size' read ended h = record {
+  wrote = h.2.more;
+  gained = h.2.gained;
+  says = (h.0, h.1, Gives-ends e s put put' size size' _ false _ ends.Open h.2 h.2.stop);
+}
+Judges-run ReadFault e s put put' size size' read ended h = record {
+  wrote = h.1.more;
+  gained = h.1.gained;
+  says = (h.0, Gives-ends e s put put' size size' read false _ ends.Open h.1 h.1.stop);
+}
+Judges-run WriteFault e s put put' size size' read ended h =
+    record { wrote = h.more; gained = h.gained; says = FallsShort-fails e s put put' size size' read ended h }
+
+pub Ran-run : (o : EngineOutcome) (e : Engine) (t s : Settings) (left left' put put' : Option (List ℕ)) (size size' : Option ℕ)
+    (answer : Outcome) → t ≡ s → answer ≡ outcome_of o → EngineRan o e t left left' put put' size size'
+    → Ran (Some (Judge s)) left left' put put' size size' answer
+Ran-run o e t s left left' put put' size size' answer same is ran =
+    let judges = Judges-run o e t put put' size size' ran.read ran.ended ran.answers in
+    let these : Ran (Some (Judge t)) left left' put put' size size' (outcome_of o) = record {
+      read = ran.read;
+      wrote = judges.wrote;
+      ended = ran.ended;
+      lost = ran.lost;
+      gained = judges.gained;
+      at_end = ran.at_end;
+      answers = judges.says;
+    } in
+    subst (λ x. Ran (Some (Judge s)) left left' put put' size size' x) (sym is)
+    (subst (λ x. Ran (Some (Judge x)) left left' put put' size size' (outcome_of o)) same these)

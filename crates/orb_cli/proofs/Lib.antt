@@ -1,4 +1,2 @@
-pub mod RoomLemmas
-pub mod RecordingLemmas
 pub mod AnswerLemmas
-pub mod OneRecording
+pub mod CompleteLemmas

@@ -1,33 +1,52 @@
 -- What an answer of `run` says of the bytes read and written, and of the counts of faults.
-use Rattle.std.specs.Prelude.{◌≡◌, ℕ, Bool, true, false, List, [], Option, Some, None}
+use Rattle.std.specs.Prelude.{◌≡◌, ℕ, ◌<◌, Bool, true, false, List, [], ◌++◌, length, take, Option, Some, None}
 use Rattle.orb_io.specs.Told.{Loses, IsAtEnd, Gains, IsPrefix, Rose}
+use Rattle.orb_engine.specs.declared.settings.Settings.{Settings}
+use Rattle.orb_engine.specs.Recording.{Recording, IsRecording}
+use Rattle.orb_engine.specs.Ends as ends
+use Rattle.orb_engine.specs.Ends.{End, stop_of}
+use Rattle.orb_engine.specs.Outputs.{output_of}
+use Rattle.orb_engine.specs.Runs.{run_limit}
 use Rattle.orb_cli.specs.declared.outcome.Outcome.{Outcome}
 use Rattle.orb_cli.specs.declared.outcome.Outcome.TheVariants as outcomes
-use Rattle.orb_cli.specs.Words.{Asked, Filter, Mime}
+use Rattle.orb_cli.specs.Words.{Asked, Judge, Mime}
 use Rattle.orb_cli.specs.MimeLine.{IsMimeLine}
-use Rattle.orb_cli.specs.Recording as recording
-use Rattle.orb_cli.specs.Recording.{End, IsRecording}
-
--- the answer is an end of a recording, at which the fact holds
-abbrev pub AtEnd : Outcome → (End → Type 0) → Type 0
-AtEnd outcomes.Done P = P recording.Done
-AtEnd (outcomes.Bad kind place) P = P (recording.Bad kind place)
-AtEnd (outcomes.Cut place) P = P (recording.Cut place)
-AtEnd (outcomes.NotBuilt place) P = P (recording.NotBuilt place)
-AtEnd _ P = ⊥
 
 -- nothing was read or written
 abbrev pub Untouched : (read wrote : List ℕ) → Type 0
 Untouched read wrote = (read ≡ []) × (wrote ≡ [])
 
--- what an answer to `filter` says
-abbrev pub IsFilterAnswer : (read : List ℕ) (ended : Bool) (wrote : List ℕ) → Outcome → Type 0
-IsFilterAnswer read ended wrote outcomes.Usage = ⊥
-IsFilterAnswer read ended wrote outcomes.ReadFault = (ended ≡ false) × (wrote ≡ [])
-IsFilterAnswer read ended wrote outcomes.WriteFault =
-    (out : List ℕ) × (stop : End) × IsRecording read ended out stop × IsPrefix wrote out
-IsFilterAnswer read ended wrote outcomes.NoMemory = Untouched read wrote
-IsFilterAnswer read ended wrote answer = AtEnd answer (IsRecording read ended wrote)
+-- the bytes are a recording that ends so, and all that is written of it was written
+pub record Gives (s : Settings) (read : List ℕ) (ended : Bool) (wrote : List ℕ) (stop : End) : Type 0 where
+  pub recording : Recording
+  pub cut : IsRecording s read recording
+  pub stops : stop_of s recording ended ≡ stop
+  pub output : wrote ≡ output_of s recording ended
+
+-- what was written begins what is written of some first bytes of those read, and of all of them
+pub record FallsShort (s : Settings) (read : List ℕ) (ended : Bool) (wrote : List ℕ) : Type 0 where
+  pub seen : List ℕ
+  pub unseen : List ℕ
+  pub are : read ≡ seen ++ unseen
+  pub recording : Recording
+  pub cut : IsRecording s seen recording
+  pub within : IsPrefix wrote (output_of s recording ended)
+  pub of_all : (r : Recording) → IsRecording s read r → IsPrefix wrote (output_of s r ended)
+
+-- what an answer says where a recording is judged by these settings
+abbrev pub IsJudgeAnswer : Settings → (read : List ℕ) (ended : Bool) (wrote : List ℕ) → Outcome → Type 0
+IsJudgeAnswer s read ended wrote outcomes.Done = Gives s read ended wrote ends.Done
+IsJudgeAnswer s read ended wrote (outcomes.Bad kind place) = Gives s read ended wrote (ends.Bad kind place)
+IsJudgeAnswer s read ended wrote (outcomes.Cut place) = Gives s read ended wrote (ends.Cut place)
+IsJudgeAnswer s read ended wrote (outcomes.HeadLimit place) = Gives s read ended wrote (ends.HeadLimit place)
+IsJudgeAnswer s read ended wrote (outcomes.MediaFull place) = Gives s read ended wrote (ends.MediaFull place)
+IsJudgeAnswer s read ended wrote (outcomes.NotBuilt place) = Gives s read ended wrote (ends.NotBuilt place)
+IsJudgeAnswer s read ended wrote outcomes.Endless =
+    (run_limit < length read) × (ended ≡ false) × Gives s (take run_limit read) false wrote ends.Open
+IsJudgeAnswer s read ended wrote outcomes.ReadFault = (ended ≡ false) × Gives s read false wrote ends.Open
+IsJudgeAnswer s read ended wrote outcomes.WriteFault = FallsShort s read ended wrote
+IsJudgeAnswer s read ended wrote outcomes.NoMemory = Untouched read wrote
+IsJudgeAnswer s read ended wrote outcomes.Usage = ⊥
 
 -- what an answer to `mime` with this text says: nothing is ever read
 abbrev pub IsMimeAnswer : (text read wrote : List ℕ) → Outcome → Type 0
@@ -39,7 +58,7 @@ IsMimeAnswer text read wrote _ = ⊥
 
 -- what an answer to words that are taken says, by what they ask for
 abbrev pub IsAnswer : Asked → (read : List ℕ) (ended : Bool) (wrote : List ℕ) → Outcome → Type 0
-IsAnswer Filter read ended wrote answer = IsFilterAnswer read ended wrote answer
+IsAnswer (Judge s) read ended wrote answer = IsJudgeAnswer s read ended wrote answer
 IsAnswer (Mime text) read ended wrote answer = IsMimeAnswer text read wrote answer
 
 -- what the answer says: `Usage` to words that are not taken, and to no others

@@ -1,6 +1,7 @@
 pub mod Words
 pub mod Commands
-pub mod Recording
 pub mod MimeLine
+pub mod Outcomes
 pub mod Answer
+pub mod Complete
 pub mod Report

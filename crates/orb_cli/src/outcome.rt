@@ -1,5 +1,9 @@
 //! How a run ends.
+ghost use Rattle.std.specs.Prelude.{◌≡◌};
+ghost use Rattle.orb_cli.specs.Outcomes.{outcome_of};
+
 use http_exchange::BadKind;
+use orb_engine::EngineOutcome;
 
 /// How a run ended. A place is that of a byte of the input, counted from 0.
 #[derive(Clone, Copy, Debug, PartialEq, Eq)]
@@ -16,7 +20,7 @@ pub enum Outcome {
     HeadLimit { place: u64 },
     /// The request at this place has a new media id, and there is no room for it.
     MediaFull { place: u64 },
-    /// The exchange or head at this place has a form that is not built yet.
+    /// The response at this place is one that the rules built so far don't decide.
     NotBuilt { place: u64 },
     /// The input goes on past the last byte that one run takes.
     Endless,
@@ -26,4 +30,22 @@ pub enum Outcome {
     WriteFault,
     /// There was no memory for the run: nothing was read or written.
     NoMemory,
+}
+
+impl From<EngineOutcome> for Outcome {
+    ghost from_gives = { λ end outcome. outcome ≡ outcome_of end };
+
+    fn from(end: EngineOutcome) -> Outcome {
+        match end {
+            EngineOutcome::Done => Outcome::Done,
+            EngineOutcome::Bad { kind, place } => Outcome::Bad { kind, place },
+            EngineOutcome::Cut { place } => Outcome::Cut { place },
+            EngineOutcome::HeadLimit { place } => Outcome::HeadLimit { place },
+            EngineOutcome::MediaFull { place } => Outcome::MediaFull { place },
+            EngineOutcome::NotBuilt { place } => Outcome::NotBuilt { place },
+            EngineOutcome::Endless => Outcome::Endless,
+            EngineOutcome::ReadFault => Outcome::ReadFault,
+            EngineOutcome::WriteFault => Outcome::WriteFault,
+        }
+    }
 }

@@ -4,7 +4,7 @@ ghost use Rattle.orb_cli.specs.Words.{asked_of};
 ghost use Rattle.orb_cli.specs.Answer.{Ran, HasCauses};
 
 use crate::commands::{Command, command_of};
-use crate::filtering::filter;
+use crate::judging::judge;
 use crate::mime_word::mime;
 use crate::outcome::Outcome;
 use orb_io::{Sink, Source};
@@ -12,9 +12,10 @@ use std::alloc::Global;
 
 /// Runs a command line over a source and a sink.
 ///
-/// The words `filter` alone, and `mime` with a text that doesn't begin with `-`, are taken. `filter`
-/// reads a recording of one HTTP exchange from the source, and writes the response to the sink where
-/// the filter allows it; `mime` reads nothing and writes the MIME type of the text in a line. The
+/// The words `filter` alone, `explain` alone, and `mime` with a text that doesn't begin with `-`, are
+/// taken. `filter` and `explain` read a recording of HTTP exchanges from the source. `filter` writes
+/// each response that is allowed to the sink, and a reply in the place of each other; `explain` writes
+/// a line for each exchange. `mime` reads nothing and writes the MIME type of the text in a line. The
 /// answer is where the recording ends, or why it was not read or written whole ([`Outcome`]). A fault
 /// is answered only where the source or the sink had one. Want of memory is answered only with
 /// nothing read and nothing written.
@@ -31,7 +32,7 @@ pub fn run<I: Source, O: Sink>(
 {
     match command_of(words) {
         None => Outcome::Usage,
-        Some(Command::Filter) => filter(alloc, input, output),
+        Some(Command::Judge(settings)) => judge(alloc, settings, input, output),
         Some(Command::Mime(text)) => mime(alloc, text, output),
     }
 }

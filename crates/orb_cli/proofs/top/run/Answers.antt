@@ -1,7 +1,7 @@
-use Rattle.std.proofs.Common.{◌≡◌, true, false, [], Option, None, Some, refl, sym, subst}
+use Rattle.std.proofs.Common.{◌≡◌, true, false, [], Option, refl, sym, subst}
 use Rattle.orb_io.proofs.ToldLemmas.{Loses-none, Gains-none}
 use Rattle.orb_cli.specs.declared.outcome.Outcome.TheVariants.{Usage}
-use Rattle.orb_cli.specs.Words.{Asked, Mime}
+use Rattle.orb_cli.specs.Words.{Asked}
 use Rattle.orb_cli.specs.Answer.{Ran}
 use Rattle.orb_cli.proofs.top.run.Goals as goal
 
@@ -11,7 +11,7 @@ returns-in-None-clause-ran g c =
     let put = g.O.Sink.put c.args.output.now in
     let size = g.O.Sink.size c.args.output.now in
     let Answered : Option Asked → Type 0 = λ asked. Ran asked left left put put size size Usage in
-    subst Answered (sym c.in-None.ensures) (record {
+    subst Answered (sym c.in-None.ensures.asked) (record {
       read = [];
       wrote = [];
       ended = false;
@@ -27,7 +27,7 @@ returns-in-Some-Mime-clause-ran g c =
     let written = c.mime.ensures.wrote in
     let Answered : Option Asked → Type 0 = λ asked. Ran asked left left (g.O.Sink.put c.args.output.now)
     (g.O.Sink.put c.mime.new.output) (g.O.Sink.size c.args.output.now) (g.O.Sink.size c.mime.new.output) c.mime.result in
-    subst Answered (sym (rw c.in-Some-Mime.field-0-is at c.in-Some-Mime.ensures)) (record {
+    subst Answered (sym (rw c.in-Some-Mime.field-0-is at c.in-Some-Mime.ensures.asked)) (record {
       read = [];
       wrote = written.0;
       ended = false;

@@ -1,0 +1,31 @@
+//! The law that makes the answers of [`crate::run`] complete.
+ghost use Rattle.std.specs.Prelude.{◌≡◌, ℕ, List, Option, Some};
+ghost use Rattle.orb_io.specs.Told.{Rose};
+ghost use Rattle.orb_engine.specs.declared.settings.Settings.{Settings};
+ghost use Rattle.orb_engine.specs.Recording.{Recording};
+ghost use Rattle.orb_cli.specs.declared.outcome.Outcome.{Outcome};
+ghost use Rattle.orb_cli.specs.Words.{Judge, Mime};
+ghost use Rattle.orb_cli.specs.Answer.{Ran, HasCauses};
+ghost use Rattle.orb_cli.specs.Complete.{IsWholeRecording, IsComplete, IsCompleteText};
+
+/// Law: where no count of faults rose, [`crate::run`] answers `Done`, or `NoMemory` with nothing read and written.
+///
+/// With the words `filter` and `explain` this holds where the source tells its bytes, they are a recording that
+/// ends behind a whole exchange or is empty, and one run takes so many. `Done` then says that all was read, and
+/// that all that is written of the recording was written. With `mime` it says that the line was written.
+pub fn completeness()
+    ensures recordings { (s : Settings) (bytes : List ℕ) (r : Recording)
+        (left' put put' : Option (List ℕ)) (size size' : Option ℕ)
+        (source source' sink sink' : ℕ) (answer : Outcome)
+        → IsWholeRecording s bytes r
+        → Ran (Some (Judge s)) (Some bytes) left' put put' size size' answer
+        → HasCauses source source' sink sink' answer
+        → ¬ (Rose source source') → ¬ (Rose sink sink')
+        → IsComplete s bytes r left' put put' size size' answer }
+    ensures texts { (text : List ℕ) (left left' put put' : Option (List ℕ)) (size size' : Option ℕ)
+        (source source' sink sink' : ℕ) (answer : Outcome)
+        → Ran (Some (Mime text)) left left' put put' size size' answer
+        → HasCauses source source' sink sink' answer
+        → ¬ (Rose sink sink')
+        → IsCompleteText text put put' size size' answer }
+{}
