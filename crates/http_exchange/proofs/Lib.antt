@@ -1,5 +1,4 @@
 pub mod EndLemmas
-pub mod FieldLemmas
 pub mod RunLemmas
 pub mod SpellLemmas
 pub mod Residuals

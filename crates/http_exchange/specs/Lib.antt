@@ -1,7 +1,6 @@
 pub mod Head
 pub mod Fields
 pub mod Heads
-pub mod First
 pub mod Marks
 pub mod Chunked
 pub mod Frames

@@ -3,15 +3,13 @@
 //! `specs/Head` says where a head ends, and `specs/Heads` which bytes are a head: the grammar is that
 //! of `httparse`, and the whole text has to be one head with at most 128 fields. What is read of one,
 //! [`read_request`] and [`read_response`], is said by its fields alone: `specs/RequestFields` and
-//! `specs/ResponseFields`. `specs/First` has the one form of exchange that the program takes so far.
+//! `specs/ResponseFields`.
 //!
 //! `specs/Frames` says which bytes are a body, and which of them are content; of chunked bodies
 //! `specs/Chunked` has the grammar. An [`Unframer`] reads a body in pieces, cut anywhere.
 #![tactic(auto)]
 
 mod ends;
-mod fields;
-mod first;
 mod frames;
 mod pieces;
 mod places;
@@ -26,7 +24,6 @@ mod unframing;
 mod values;
 
 pub use ends::head_end;
-pub use first::{FirstRequest, FirstResponse, first_request, first_response};
 pub use frames::BodyFrame;
 pub use pieces::Taken;
 pub use refusals::BadKind;
