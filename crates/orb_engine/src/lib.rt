@@ -29,6 +29,8 @@ mod outcome;
 mod running;
 mod settings;
 mod steps;
+#[cfg(test)]
+mod tests;
 mod worker;
 mod writer;
 

@@ -1,0 +1,335 @@
+//! Recordings through an [`Engine`], with what is owed of them, in pieces and at each pull of a link.
+ghost use Rattle.std.specs.Prelude.{◌≡◌, ◌≤◌, ◌+◌, ◌-◌, ◌^◌, Some, None, length};
+ghost use Rattle.std.proofs.Common.{refl, ap, ◌∙◌};
+ghost use Rattle.std.proofs.Math.Nat.{min-le_right as min_le_right};
+ghost use Rattle.orb_io.specs.Memory.{told_size};
+ghost use Rattle.orb_engine.specs.Runs.{taken_by, CanFeed};
+
+use crate::{Engine, EngineOutcome, Job, Settings};
+use orb_io::{Duplex, Failed, MemoryLink, MemorySink, MemorySource, Sink, Source};
+use response_rules::Policy;
+use std::alloc::Global;
+use std::test::Fail;
+
+const REQUEST: &[u8] = b"GET / HTTP/1.1\r\nSec-Fetch-Mode: no-cors\r\n\r\n";
+
+const AUDIO: &[u8] =
+    b"GET / HTTP/1.1\r\nSec-Fetch-Mode: no-cors\r\nSec-Fetch-Dest: audio\r\nOrb-Media: 7\r\n\r\n";
+
+const PNG: &[u8] =
+    b"HTTP/1.1 200 OK\r\nContent-Type: image/png\r\nContent-Length: 8\r\n\r\n\x89PNG\r\n\x1a\n";
+
+/// A response without the last byte of its body.
+const HTML: &[u8] =
+    b"HTTP/1.1 200 OK\r\nContent-Type: text/html\r\nX-Content-Type-Options: nosniff\r\nContent-Length: 4\r\n\r\n<p>";
+
+const OGG: &[u8] =
+    b"HTTP/1.1 206 Partial Content\r\nContent-Range: bytes 0-4/9\r\nContent-Length: 5\r\n\r\nOggS\0";
+
+const BEHIND: &[u8] =
+    b"HTTP/1.1 206 Partial Content\r\nContent-Range: bytes 5-8/9\r\nContent-Length: 4\r\n\r\nabcd";
+
+const REPLY: &[u8] =
+    b"HTTP/1.1 403 Forbidden\r\nContent-Length: 0\r\nOrb-Rule: nosniff-blocklisted\r\n\r\n";
+
+const GIF: &[u8] = b"HTTP/1.1 200 OK\r\nContent-Length: 2097158\r\n\r\n";
+
+const JPEG: &[u8] =
+    b"HTTP/1.1 200 OK\r\nContent-Type: image/jpeg\r\nTransfer-Encoding: chunked\r\n\r\n";
+
+fn settings(job: Job) -> Settings
+    ensures { result.limit ≡ 1024 }
+{
+    Settings {
+        job,
+        policy: Policy::Orb,
+        limit: 1024,
+    }
+}
+
+fn joined(alloc: Global, parts: &[&[u8]]) -> Result<Vec<u8>, Fail> {
+    let mut all = Vec::new(alloc);
+    for part in parts {
+        all.extend_from_slice(part)?;
+    }
+    Ok(all)
+}
+
+/// Feeds the recording in pieces of that size.
+fn feed_in_pieces(
+    engine: &mut Engine,
+    recording: &[u8],
+    size: usize,
+    sink: &mut MemorySink,
+) -> Option<EngineOutcome>
+    requires can { CanFeed engine.old }
+    requires few { taken_by engine.old + length recording.now ≤ 2 ^ 62 }
+    requires some { 1 ≤ size }
+    ensures { result ≡ None → CanFeed engine.new }
+{
+    let mut rest = recording;
+    'pieces: while !rest.is_empty() {
+        let (piece, behind) = rest.split_at(size.min(rest.len()));
+        if let Some(outcome) = engine.feed(piece, sink) {
+            return Some(outcome);
+        }
+        rest = behind;
+    }
+    None
+}
+
+/// A whole recording, in pieces of that size.
+fn pass(engine: &mut Engine, recording: &[u8], size: usize, sink: &mut MemorySink) -> EngineOutcome
+    requires few { length recording.now ≤ 2 ^ 62 }
+    requires some { 1 ≤ size }
+{
+    engine.start();
+    match feed_in_pieces(engine, recording, size, sink) {
+        Some(outcome) => outcome,
+        None => engine.end(sink),
+    }
+}
+
+#[test]
+fn exchanges_are_filtered_and_explained_in_every_cutting(rt: HostRuntime) -> Result<(), Fail> {
+    let alloc = rt.alloc();
+    let two: [&[u8]; 5] = [REQUEST, PNG, REQUEST, HTML, b"x"];
+    let cut: [&[u8]; 4] = [REQUEST, PNG, REQUEST, HTML];
+    let media: [&[u8]; 4] = [AUDIO, OGG, AUDIO, BEHIND];
+    let lines = b"1 allow image na 8\n2 block nosniff-blocklisted na 4\n";
+    // the parts of a recording, what is done, the end, how many were allowed and blocked, and what is written
+    let rows: [(&[&[u8]], Job, EngineOutcome, (u64, u64), &[&[u8]]); 4] = [
+        (
+            &two,
+            Job::Filter,
+            EngineOutcome::Done,
+            (1, 1),
+            &[PNG, REPLY],
+        ),
+        (&two, Job::Explain, EngineOutcome::Done, (1, 1), &[lines]),
+        (
+            &cut,
+            Job::Filter,
+            EngineOutcome::Cut { place: 114 },
+            (1, 0),
+            &[PNG],
+        ),
+        (
+            &media,
+            Job::Explain,
+            EngineOutcome::Done,
+            (2, 0),
+            &[b"1 allow media subsequent 5\n2 allow subsequent subsequent 4\n"],
+        ),
+    ];
+    for (parts, job, owed, counts, writes) in rows {
+        let recording = joined(alloc, parts)?;
+        let want = joined(alloc, writes)?;
+        assert!(rt; recording.len() <= 1024);
+        let mut engine = Engine::open(alloc, settings(job))?;
+        for size in [1, 7, 1024] {
+            let mut sink = MemorySink::open(alloc, 1024, Vec::new(alloc))?;
+            let outcome = pass(&mut engine, &recording, size, &mut sink);
+            assert_eq!(rt; outcome, owed, "{job:?}");
+            assert_eq!(rt; (engine.allowed(), engine.blocked()), counts, "{job:?}");
+            assert_eq!(rt; sink.bytes(), want.as_slice(), "{job:?}");
+        }
+        let mut source = MemorySource::new(recording, 50, Vec::new(alloc));
+        let mut sink = MemorySink::open(alloc, 1024, Vec::new(alloc))?;
+        assert_eq!(rt; engine.run(&mut source, &mut sink), owed, "{job:?}");
+        assert_eq!(rt; sink.bytes(), want.as_slice(), "{job:?}");
+    }
+    Ok(())
+}
+
+/// How many bytes are owed where so many have been read, until the next row: `put`, and where the body flows
+/// each byte read since.
+#[derive(Clone, Copy)]
+struct Owed {
+    read: usize,
+    put: usize,
+    flows: bool,
+}
+
+fn owed_behind(rows: &[Owed], read: usize) -> usize {
+    let mut put = 0;
+    for row in rows {
+        if row.read <= read {
+            let since = if row.flows { read - row.read } else { 0 };
+            put = row.put.saturating_add(since);
+        }
+    }
+    put
+}
+
+/// A link that sees at each pull whether as much was put as is owed of what was read.
+#[derive(Drop)]
+struct WatchedLink {
+    link: MemoryLink,
+    owed: &'static [Owed],
+    read: usize,
+    exact: bool,
+}
+
+impl Source for WatchedLink {
+    ghost left = { λ s. Some s.link.source.rest };
+
+    ghost faults = { λ s. s.link.source.faults };
+
+    ghost kept = { λ s t. t.link.sink ≡ s.link.sink };
+
+    ghost kept_reflexive = { λ _. refl };
+
+    ghost kept_transitive = { λ _ _ _ p q. q ∙ p };
+
+    fn pull(&mut self, buf: &mut [u8]) -> Result<usize, Failed> {
+        let put = self.link.sink().bytes().len();
+        self.exact = self.exact && put == owed_behind(self.owed, self.read);
+        let pulled = self.link.pull(buf);
+        if let Ok(count) = pulled {
+            self.read = self.read.saturating_add(count);
+        }
+        pulled
+    }
+}
+
+impl Sink for WatchedLink {
+    ghost put = { λ s. Some s.link.sink.bytes };
+
+    ghost size = { λ s. told_size s.link.sink.bytes };
+
+    ghost faults = { λ s. s.link.sink.faults };
+
+    ghost kept = { λ s t. t.link.source ≡ s.link.source };
+
+    ghost number = { λ _. refl };
+
+    ghost number_fits = { λ s. min_le_right (length s.link.sink.bytes) (2 ^ 64 - 1) };
+
+    ghost kept_reflexive = { λ _. refl };
+
+    ghost kept_transitive = { λ _ _ _ p q. q ∙ p };
+
+    fn push(&mut self, piece: &[u8]) -> Result<(), Failed> {
+        self.link.push(piece)
+    }
+}
+
+impl Duplex for WatchedLink {
+    ghost pull_leaves_put = { λ _ _ same. ap (λ k. Some k.bytes) same };
+
+    ghost pull_leaves_size = { λ _ _ same. ap (λ k. told_size k.bytes) same };
+
+    ghost pull_leaves_faults = { λ _ _ same. ap (λ k. k.faults) same };
+
+    ghost push_leaves_left = { λ _ _ same. ap (λ k. Some k.rest) same };
+
+    ghost push_leaves_faults = { λ _ _ same. ap (λ k. k.faults) same };
+}
+
+/// What an engine answers over a link whose pulls give at most so many bytes, and the link behind that.
+fn run_watched(
+    alloc: Global,
+    job: Job,
+    recording: Vec<u8>,
+    piece: usize,
+    owed: &'static [Owed],
+) -> Result<(EngineOutcome, WatchedLink), Fail>
+    requires { 1 ≤ piece }
+{
+    let sink = MemorySink::open(alloc, recording.len(), Vec::new(alloc))?;
+    let mut link = WatchedLink {
+        link: MemoryLink::new(MemorySource::new(recording, piece, Vec::new(alloc)), sink),
+        owed,
+        read: 0,
+        exact: true,
+    };
+    let mut engine = Engine::open(alloc, settings(job))?;
+    let outcome = engine.run_link(&mut link);
+    Ok((outcome, link))
+}
+
+/// A recording of one response whose body is sent in chunks of one byte.
+fn in_chunks_of_one(alloc: Global, body: &[u8]) -> Result<Vec<u8>, Fail> {
+    let mut recording = joined(alloc, &[REQUEST, JPEG])?;
+    for byte in body {
+        recording.extend_from_slice(&[b'1', b'\r', b'\n', *byte, b'\r', b'\n'])?;
+    }
+    recording.extend_from_slice(b"0\r\n\r\n")?;
+    Ok(recording)
+}
+
+#[test]
+fn a_long_image_goes_out_from_its_window_on(rt: HostRuntime) -> Result<(), Fail> {
+    const PASSED: &[Owed] = &[Owed {
+        read: 1111,
+        put: 1068,
+        flows: true,
+    }];
+    const EXPLAINED: &[Owed] = &[Owed {
+        read: 2_097_245,
+        put: 25,
+        flows: false,
+    }];
+    let alloc = rt.alloc();
+    let zeros = vec![in alloc; 0u8; 2_097_152]?;
+    let response = joined(alloc, &[GIF, b"GIF89a", &zeros])?;
+    let rows: [(Job, &'static [Owed], &[u8]); 2] = [
+        (Job::Filter, PASSED, &response),
+        (Job::Explain, EXPLAINED, b"1 allow image na 2097158\n"),
+    ];
+    for (job, owed, want) in rows {
+        let recording = joined(alloc, &[REQUEST, &response])?;
+        let (outcome, link) = run_watched(alloc, job, recording, 100, owed)?;
+        assert_eq!(rt; outcome, EngineOutcome::Done);
+        assert!(rt; link.exact, "{job:?}");
+        assert!(rt; link.link.sink().bytes() == want, "{job:?}");
+    }
+    Ok(())
+}
+
+#[test]
+fn chunks_of_one_byte_go_out_in_chunks_of_1024(rt: HostRuntime) -> Result<(), Fail> {
+    const OWED: &[Owed] = &[
+        Owed {
+            read: 6258,
+            put: 1104,
+            flows: false,
+        },
+        Owed {
+            read: 12402,
+            put: 2135,
+            flows: false,
+        },
+        Owed {
+            read: 12415,
+            put: 2146,
+            flows: false,
+        },
+    ];
+    let alloc = rt.alloc();
+    let zeros = vec![in alloc; 0u8; 1024]?;
+    let fewer = vec![in alloc; 0u8; 1021]?;
+    let first = joined(alloc, &[b"\xff\xd8\xff", &fewer])?;
+    let body = joined(alloc, &[&first, &zeros, b"\0"])?;
+    let want = joined(
+        alloc,
+        &[
+            JPEG,
+            b"400\r\n",
+            &first,
+            b"\r\n400\r\n",
+            &zeros,
+            b"\r\n1\r\n\0\r\n0\r\n\r\n",
+        ],
+    )?;
+    for piece in [1, 100] {
+        assert!(rt; 1 <= piece);
+        let recording = in_chunks_of_one(alloc, &body)?;
+        let (outcome, link) = run_watched(alloc, Job::Filter, recording, piece, OWED)?;
+        assert_eq!(rt; outcome, EngineOutcome::Done);
+        assert!(rt; link.exact, "{piece}");
+        assert_eq!(rt; link.link.sink().bytes(), want.as_slice(), "{piece}");
+    }
+    Ok(())
+}
