@@ -1,11 +1,10 @@
 -- A body that begins.
-use Rattle.std.proofs.Common.{◌≡◌, ℕ, ◌+◌, Bool, true, false, List, [], ◌++◌, length, Option, refl, sym, ap, subst, ◌∙◌, arith}
+use Rattle.std.proofs.Common.{◌≡◌, ℕ, Bool, false, List, [], ◌++◌, Option, refl, sym, ap, subst, ◌∙◌, arith}
 use Rattle.std.specs.FinMap as map
 use Rattle.std.proofs.lemmas.List.{append-nil}
 use Rattle.orb_io.proofs.ToldLemmas.{IsPrefix-none}
 use Rattle.response_rules.specs.declared.deciding.Decider.{Decider}
 use Rattle.body_filter.specs.Exchanges as filter
-use Rattle.http_exchange.specs.Frames.{IsFront}
 use Rattle.http_exchange.specs.Reads.{StandsAt}
 use Rattle.http_exchange.specs.Reads.{HasRead as UnframerHasRead}
 use Rattle.http_exchange.specs.declared.frames.BodyFrame.{BodyFrame}
@@ -13,17 +12,16 @@ use Rattle.http_exchange.specs.declared.frames.BodyFrame.TheVariants as frame
 use Rattle.http_exchange.specs.declared.places.Place.TheVariants.{Size}
 use Rattle.http_exchange.specs.declared.unframing.Reading.{Reading}
 use Rattle.http_exchange.specs.declared.unframing.Reading.TheVariants.{Counted, Chunks, Rest}
-use Rattle.http_exchange.specs.declared.unframing.Unframer.{Unframer}
 use Rattle.http_exchange.proofs.UnframerLemmas.{front_read}
 use Rattle.orb_engine.specs.declared.settings.Settings.{Settings}
 use Rattle.orb_engine.specs.declared.engine.Engine.{Engine}
 use Rattle.orb_engine.specs.declared.engine.Asked.{Asked}
 use Rattle.orb_engine.specs.declared.engine.Incoming.{Incoming}
 use Rattle.orb_engine.specs.Heads.{Heads, id_of, is_chunked, is_to_end, exchange_of, judged_by}
-use Rattle.orb_engine.specs.Recording.{Item, spell_heads, spell_items}
+use Rattle.orb_engine.specs.Recording.{spell_heads, spell_items}
 use Rattle.orb_engine.specs.Outputs.{written_items, written_front}
 use Rattle.orb_engine.specs.Writing.{Writes, Breaks as WriterBreaks, WriterReads, box_of}
-use Rattle.orb_engine.specs.Reads.{table_of, Common, Fills, Breaks, HasReadHeads}
+use Rattle.orb_engine.specs.Reads.{table_of, Fills, Breaks, HasReadHeads}
 use Rattle.orb_engine.proofs.ClosingLemmas.{gave-more, broke-within}
 use Rattle.orb_engine.proofs.StepLemmas.{seen-body, breaks-body}
 use Rattle.orb_engine.proofs.PassLemmas.{IsKept, common-kept}

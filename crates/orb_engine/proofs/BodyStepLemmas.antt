@@ -1,12 +1,11 @@
 -- Steps through bodies.
-use Rattle.std.proofs.Common.{◌≡◌, ℕ, ◌+◌, ◌<◌, ◌≤◌, Bool, true, false, List, [], ◌∷◌, ◌++◌, length, take, drop, get_or, Option, refl, sym, ap, subst, ◌∙◌, arith, append_assoc, length-append, add-one, zero, suc}
+use Rattle.std.proofs.Common.{◌≡◌, ℕ, ◌+◌, ◌<◌, ◌≤◌, false, List, [], ◌∷◌, ◌++◌, length, take, drop, get_or, Option, refl, sym, ap, subst, ◌∙◌, arith, append_assoc, length-append, add-one, zero, suc}
 use Rattle.std.specs.FinMap as map
 use Rattle.std.proofs.lemmas.List.{append-nil, take-append-drop, length-take-le, take_more}
 use Rattle.std.proofs.Math.Seq.{drop-cons}
 use Rattle.orb_io.specs.Told.{Gains}
-use Rattle.http_exchange.specs.Frames.{IsFront, IsWhole, IsBadAt}
+use Rattle.http_exchange.specs.Frames.{IsFront}
 use Rattle.http_exchange.specs.Reads.{Gets, Refuses}
-use Rattle.http_exchange.specs.Reads.{HasRead as UnframerHasRead}
 use Rattle.http_exchange.specs.declared.unframing.Unframer.{Unframer}
 use Rattle.http_exchange.specs.declared.refusals.BadKind.TheVariants.{BadChunk}
 use Rattle.orb_engine.specs.declared.settings.Settings.{Settings}
@@ -15,7 +14,7 @@ use Rattle.orb_engine.specs.declared.engine.Incoming.{Incoming}
 use Rattle.orb_engine.specs.declared.engine.Stage.{Stage}
 use Rattle.orb_engine.specs.declared.engine.Stage.TheVariants as stage
 use Rattle.orb_engine.specs.declared.outcome.EngineOutcome.TheVariants as outcome
-use Rattle.orb_engine.specs.Heads.{Heads, id_of, exchange_of, is_to_end}
+use Rattle.orb_engine.specs.Heads.{Heads, exchange_of}
 use Rattle.orb_engine.specs.Recording as cut
 use Rattle.orb_engine.specs.Recording.{Item, Tail, Recording, IsRecording, IsTail, IsSending, spell_heads, spell_items, spell_tail}
 use Rattle.orb_engine.specs.Ends as ends

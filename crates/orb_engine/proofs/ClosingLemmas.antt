@@ -1,30 +1,26 @@
 -- The end of an exchange.
-use Rattle.std.proofs.Common.{◌≡◌, ◌⊎◌, ℕ, cond, ◌+◌, Bool, true, false, List, [], ◌∷◌, ◌++◌, length, Option, None, Some, Result, Ok, Err, refl, sym, ap, subst, ◌∙◌, inl, inr, arith, append_assoc}
+use Rattle.std.proofs.Common.{◌≡◌, ◌⊎◌, ℕ, cond, ◌+◌, Bool, true, false, List, [], ◌++◌, length, Option, None, Some, Result, Ok, Err, refl, sym, ap, subst, ◌∙◌, inl, inr, arith, append_assoc}
 use Rattle.std.specs.Prelude.{is_some}
 use Rattle.std.specs.FinMap as map
-use Rattle.std.specs.Ordering.{nat_cmp}
-use Rattle.orb_io.specs.Told.{Gains, IsPrefix}
+use Rattle.orb_io.specs.Told.{IsPrefix}
 use Rattle.orb_io.proofs.ToldLemmas.{IsPrefix-append, IsPrefix-trans, IsPrefix-behind}
 use Rattle.media_state.specs.Table.{States, admitted}
 use Rattle.std.proofs.lemmas.Cmp.{nat_cmp_total, eq_by_cmp_equiv}
 use Rattle.media_state.specs.declared.states.MediaState.{MediaState}
 use Rattle.media_state.specs.declared.states.MediaState.TheVariants.{Initial}
-use Rattle.body_filter.specs.declared.pushing.WriteFault.{WriteFault}
 use Rattle.response_rules.specs.declared.rules.Rule.{Rule}
-use Rattle.response_rules.specs.Tables.{window_rule_of}
 use Rattle.orb_engine.specs.declared.settings.Settings.{Settings}
 use Rattle.orb_engine.specs.declared.counts.Counts.{Counts}
 use Rattle.std.proofs.lemmas.List.{append-nil}
 use Rattle.body_filter.specs.Exchanges.{Exchange}
 use Rattle.orb_engine.specs.declared.settings.Job.{Job}
 use Rattle.orb_engine.proofs.OutputLaws.{written_front-whole}
-use Rattle.orb_engine.specs.Heads.{Heads, admits, keeps, exchange_of, judged_by}
+use Rattle.orb_engine.specs.Heads.{Heads, admits, keeps}
 use Rattle.orb_engine.specs.Media.{IsKept, stored}
 use Rattle.orb_engine.specs.Recording.{Item}
-use Rattle.orb_engine.specs.Outputs.{written_items, written_front, written_whole}
+use Rattle.orb_engine.specs.Outputs.{written_front, written_whole}
 use Rattle.orb_engine.specs.Counts.{rules_of_items}
-use Rattle.orb_engine.specs.Writing.{Writes, Breaks}
-use Rattle.orb_engine.specs.Reads.{IsTold, counts_of, table_of}
+use Rattle.orb_engine.specs.Reads.{IsTold, counts_of}
 use Rattle.orb_engine.specs.declared.engine.Engine.{Engine}
 use Rattle.orb_engine.specs.declared.outcome.EngineOutcome.{EngineOutcome}
 use Rattle.orb_engine.specs.declared.outcome.EngineOutcome.TheVariants as outcome

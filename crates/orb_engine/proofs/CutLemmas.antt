@@ -1,7 +1,6 @@
 -- Recordings that are one step longer.
-use Rattle.std.proofs.Common.{◌≡◌, ℕ, suc, cond, ◌+◌, ◌≤◌, Bool, true, false, List, [], ◌∷◌, ◌++◌, length, map, refl, sym, ap, subst, ◌∙◌, arith, append_assoc, length-append}
-use Rattle.std.specs.Prelude.{not, count_by, Some}
-use Rattle.std.specs.FinMap as finite
+use Rattle.std.proofs.Common.{◌≡◌, ℕ, suc, cond, ◌+◌, ◌≤◌, Bool, true, false, List, [], ◌∷◌, ◌++◌, length, refl, sym, ap, ◌∙◌, arith, append_assoc, length-append}
+use Rattle.std.specs.Prelude.{not, count_by}
 use Rattle.std.proofs.lemmas.List.{append-nil}
 use Rattle.std.proofs.lemmas.List.Sums.{sum_by-cons, sum_by-append}
 use Rattle.media_state.specs.Table.{States}
@@ -10,7 +9,7 @@ use Rattle.response_rules.specs.Rules.{is_allowing}
 use Rattle.orb_engine.specs.declared.settings.Settings.{Settings}
 use Rattle.orb_engine.specs.declared.counts.Counts.{Counts}
 use Rattle.orb_engine.specs.Heads.{exchange_of}
-use Rattle.orb_engine.specs.Recording.{Item, Tail, Recording, IsItem, AreItems, IsTail, IsRecording, is_open, spell_heads, spell_item, spell_items, spell_tail, table_after, table_behind}
+use Rattle.orb_engine.specs.Recording.{Item, Tail, IsItem, AreItems, IsTail, IsRecording, is_open, spell_item, spell_items, spell_tail, table_after, table_behind}
 use Rattle.orb_engine.specs.Outputs.{written_items, written_whole}
 use Rattle.orb_engine.specs.Counts.{rules_of_items, count_allowed, count_blocked}
 use Rattle.orb_engine.specs.Reads.{open_cut, table_of, counts_of, count_with}

@@ -1,15 +1,13 @@
 -- What becomes of a body that has come.
-use Rattle.std.proofs.Common.{◌≡◌, ℕ, ◌+◌, ◌^◌, ◌<◌, ◌≤◌, Bool, true, false, List, [], ◌∷◌, ◌++◌, length, Option, None, Some, Result, Ok, Err, refl, sym, ap, subst, ◌∙◌, inl, inr, arith, lit<, append_assoc, length-append}
-use Rattle.std.specs.Prelude.{is_some, codes}
+use Rattle.std.proofs.Common.{◌≡◌, ℕ, ◌+◌, ◌^◌, ◌<◌, ◌≤◌, Bool, false, List, [], ◌∷◌, ◌++◌, length, Option, None, Some, Result, Ok, Err, refl, sym, ap, subst, ◌∙◌, inr, arith, lit<, append_assoc, length-append}
 use Rattle.std.specs.FinMap as map
 use Rattle.std.proofs.lemmas.List.{append-nil}
 use Rattle.orb_io.specs.Told.{Gains, IsPrefix}
-use Rattle.orb_io.proofs.ToldLemmas.{IsPrefix-append, IsPrefix-trans}
 use Rattle.response_rules.specs.declared.rules.Rule.{Rule}
 use Rattle.response_rules.specs.Tables.{window_rule_of}
 use Rattle.response_rules.specs.Settled.{is_in_text}
 use Rattle.http_exchange.specs.Head.{head_length}
-use Rattle.http_exchange.specs.Frames.{IsFront, IsWhole}
+use Rattle.http_exchange.specs.Frames.{IsWhole}
 use Rattle.http_exchange.proofs.EndLemmas.{head_length-bounds}
 use Rattle.orb_engine.specs.declared.settings.Settings.{Settings}
 use Rattle.orb_engine.specs.declared.counts.Counts.{Counts}
@@ -27,11 +25,10 @@ use Rattle.orb_engine.specs.Ends.{NotBuilt, stop_of}
 use Rattle.orb_engine.specs.Outputs.{output_of, written_items, written_front, written_whole}
 use Rattle.orb_engine.specs.Counts.{rules_of, rules_of_items}
 use Rattle.orb_engine.specs.Writing.{box_of}
-use Rattle.orb_engine.specs.Reads.{open_cut, table_of, counts_of, IsTold, Common, Asks, Sends, Stands, Reads, Fills, FillsAt, Stops, Breaks, Goes, Settles}
-use Rattle.orb_engine.specs.Closing.{IsClosing, Closes, Closed, ClosedFalls, all_written}
-use Rattle.orb_engine.proofs.CutLemmas.{spell_items-append, spell_items-length, spell_items-snoc, table-snoc, items-snoc, written-snoc, rules-snoc, count-sum, rules-length, items-few}
+use Rattle.orb_engine.specs.Reads.{open_cut, table_of, counts_of, IsTold, Stands, Reads, Fills, FillsAt, Stops, Goes, Settles}
+use Rattle.orb_engine.specs.Closing.{Closes, all_written}
+use Rattle.orb_engine.proofs.CutLemmas.{spell_items-length, spell_items-snoc, table-snoc, items-snoc, written-snoc, rules-snoc, count-sum, rules-length, items-few}
 use Rattle.orb_engine.proofs.OutputLaws.{written_front-undecided}
-use Rattle.orb_engine.proofs.BodyLaws.{text-rule}
 
 pub at-filled : (t : Stage) (incoming : Incoming) (e : Engine) (s : Settings) (m given : List ℕ) → t ≡ stage.Sending incoming
     → FillsAt t e s m given → Fills incoming e s m given

@@ -1,9 +1,8 @@
 -- How a recording ends where no more comes.
-use Rattle.std.proofs.Common.{◌≡◌, ℕ, ◌+◌, ◌^◌, ◌<◌, ◌≤◌, Bool, true, false, List, [], ◌∷◌, ◌++◌, length, Option, None, Some, Result, Ok, Err, refl, sym, ap, subst, ◌∙◌, arith, append_assoc, length-append}
+use Rattle.std.proofs.Common.{◌≡◌, ℕ, ◌+◌, ◌^◌, ◌<◌, ◌≤◌, true, false, List, [], ◌∷◌, ◌++◌, length, Option, None, Result, Ok, Err, refl, sym, ap, subst, ◌∙◌, arith, length-append}
 use Rattle.std.specs.FinMap as map
 use Rattle.std.proofs.lemmas.List.{append-nil}
-use Rattle.orb_io.specs.Told.{Gains, IsPrefix}
-use Rattle.response_rules.specs.declared.rules.Rule.{Rule}
+use Rattle.orb_io.specs.Told.{Gains}
 use Rattle.response_rules.specs.Tables.{window_rule_of}
 use Rattle.body_filter.specs.Exchanges.{Exchange, whole_of}
 use Rattle.http_exchange.proofs.EndLemmas.{head_length-bounds}
@@ -21,10 +20,10 @@ use Rattle.orb_engine.specs.Recording.{Item, Tail, Recording, IsRecording, spell
 use Rattle.orb_engine.specs.Ends as ends
 use Rattle.orb_engine.specs.Ends.{End, stop_of, end_of_body, response_place}
 use Rattle.orb_engine.specs.Outputs.{output_of, written_items, written_front, written_whole, written_tail}
-use Rattle.orb_engine.specs.Counts.{rules_of, rules_of_items, rules_of_tail, as_list}
+use Rattle.orb_engine.specs.Counts.{rules_of, rules_of_items, rules_of_tail}
 use Rattle.orb_engine.specs.Writing.{box_of}
-use Rattle.orb_engine.specs.Reads.{open_cut, table_of, counts_of, IsTold, Common, IsStop, Stops, Breaks, Halts, HasOpenRequest, HasOpenResponse}
-use Rattle.orb_engine.specs.Closing.{Closes, Closed, ClosedFalls, IsClosing, all_written}
+use Rattle.orb_engine.specs.Reads.{open_cut, table_of, counts_of, IsTold, IsStop, Stops, Halts, HasOpenRequest, HasOpenResponse}
+use Rattle.orb_engine.specs.Closing.{Closes, IsClosing}
 use Rattle.orb_engine.proofs.CutLemmas.{spell_items-length, items-few, count-sum, rules-length}
 use Rattle.orb_engine.proofs.OutputLaws.{written_front-undecided}
 use Rattle.orb_engine.proofs.BodyStepLemmas.{HasOpenBody}

@@ -1,10 +1,9 @@
 -- What goes out behind a piece.
-use Rattle.std.proofs.Common.{◌≡◌, ◌⊎◌, ℕ, ◌+◌, ◌^◌, ◌≤◌, Bool, true, false, List, [], ◌∷◌, ◌++◌, length, Option, None, Some, Result, Ok, Err, refl, sym, ap, subst, ◌∙◌, inl, inr, arith, append_assoc}
+use Rattle.std.proofs.Common.{◌≡◌, ℕ, ◌^◌, ◌≤◌, Bool, true, false, List, [], ◌∷◌, ◌++◌, Option, Ok, refl, sym, ap, subst, ◌∙◌, inl, inr, append_assoc}
 use Rattle.std.specs.FinMap as map
 use Rattle.std.proofs.lemmas.List.{append-nil}
 use Rattle.orb_io.specs.Told.{Gains, IsPrefix}
-use Rattle.orb_io.proofs.ToldLemmas.{Gains-twice, IsPrefix-all, IsPrefix-trans, IsPrefix-behind, IsPrefix-append}
-use Rattle.response_rules.specs.Tables.{window_rule_of}
+use Rattle.orb_io.proofs.ToldLemmas.{Gains-twice, IsPrefix-trans, IsPrefix-behind, IsPrefix-append}
 use Rattle.body_filter.specs.declared.pushing.WriteFault.{WriteFault}
 use Rattle.orb_engine.specs.declared.settings.Settings.{Settings}
 use Rattle.orb_engine.specs.declared.worker.Worker.{Worker}
@@ -20,13 +19,12 @@ use Rattle.orb_engine.specs.Workers.{IsWorkerFor, Works}
 use Rattle.orb_engine.specs.Heads.{exchange_of}
 use Rattle.orb_engine.specs.Recording as cut
 use Rattle.orb_engine.specs.Recording.{Item, Tail, Recording, is_open}
-use Rattle.orb_engine.specs.Ends.{End, Open, stop_of}
-use Rattle.orb_engine.specs.Outputs.{output_of, written_items, written_tail}
-use Rattle.orb_engine.specs.Counts.{rules_of, rules_of_items, rules_of_tail, count_allowed, count_blocked}
+use Rattle.orb_engine.specs.Outputs.{output_of, written_items}
+use Rattle.orb_engine.specs.Counts.{rules_of, rules_of_items, rules_of_tail}
 use Rattle.orb_engine.specs.Writing.{Passes, Breaks as WriterBreaks, IsSameBut, IsWriterFor, box_of}
-use Rattle.orb_engine.specs.Reads.{open_cut, table_of, counts_of, IsTold, Stands, Reads, IsStop, Stops, Breaks, Goes, Halts}
-use Rattle.orb_engine.specs.Runs.{HasRead, HasCounted, HasCountedFront, Ends, Continues, Fails, EndsAs}
-use Rattle.orb_engine.proofs.GatherLemmas.{flushed, flush-broken}
+use Rattle.orb_engine.specs.Reads.{open_cut, table_of, counts_of, IsTold, Stands, IsStop, Stops, Breaks, Goes, Halts}
+use Rattle.orb_engine.specs.Runs.{HasCounted, HasCountedFront, Ends, Continues, Fails, EndsAs}
+use Rattle.orb_engine.proofs.GatherLemmas.{flushed}
 use Rattle.orb_engine.proofs.AnswerLaws.{opens-stop}
 
 -- the counts of whole exchanges, by verdict

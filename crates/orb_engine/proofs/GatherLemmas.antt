@@ -1,10 +1,9 @@
 -- What is gathered and what is pushed, call after call.
-use Rattle.std.proofs.Common.{◌≡◌, ◌⊎◌, ℕ, ◌+◌, ◌*◌, ◌≤◌, ◌<◌, List, [], ◌∷◌, ◌++◌, length, Option, Some, Result, Ok, Err, refl, sym, ap, subst, ◌∙◌, inl, inr, arith, append_assoc, length-append}
+use Rattle.std.proofs.Common.{◌≡◌, ℕ, ◌+◌, ◌≤◌, ◌<◌, List, [], ◌∷◌, ◌++◌, length, Option, Some, Result, Ok, Err, refl, sym, ap, subst, ◌∙◌, inl, inr, arith, length-append}
 use Rattle.std.proofs.lemmas.List.{append-nil}
 use Rattle.orb_io.specs.Told.{Gains, IsPrefix, Rose}
 use Rattle.orb_io.specs.Memory.{told_size}
 use Rattle.orb_io.proofs.ToldLemmas.{Gains-twice, IsPrefix-all}
-use Rattle.body_filter.specs.Exchanges.{Exchange, front_of, whole_of}
 use Rattle.body_filter.specs.Puts.{Makes, Falls}
 use Rattle.body_filter.specs.declared.pushing.WriteFault.{WriteFault}
 use Rattle.orb_engine.specs.Boxes.{BoxState, IsBehind, box_room, empty_box}

@@ -8,7 +8,7 @@ use Rattle.std.proofs.lemmas.List.{length-take-le, take_all, take-take}
 use Rattle.std.proofs.lemmas.List.{take-append-drop}
 use Rattle.http_exchange.specs.Head.{head_end_bytes, begins_with_end, head_length}
 use Rattle.http_exchange.proofs.EndLemmas.{head_length-stays, head_length-bounds, head_length-alone}
-use Rattle.orb_engine.specs.Texts.{head_limit, IsOpenHead, IsHeadText, IsLongHead}
+use Rattle.orb_engine.specs.Texts.{head_limit, IsOpenHead}
 use Rattle.orb_engine.specs.Gathering.{EndsBehind, TakesHead}
 use Rattle.orb_engine.specs.declared.heads.HeadTaken.TheVariants as taken
 

@@ -1,5 +1,5 @@
 -- Steps through heads.
-use Rattle.std.proofs.Common.{◌≡◌, ℕ, ◌+◌, ◌≤◌, Bool, true, false, List, [], ◌∷◌, ◌++◌, length, take, drop, Option, Result, Ok, Err, refl, sym, ap, subst, ◌∙◌, arith, append_assoc, length-append}
+use Rattle.std.proofs.Common.{◌≡◌, ℕ, ◌+◌, ◌≤◌, Bool, false, List, [], ◌++◌, length, take, drop, Option, Ok, Err, refl, sym, ap, subst, ◌∙◌, arith, append_assoc, length-append}
 use Rattle.std.proofs.lemmas.Bool.{false≢true}
 use Rattle.std.specs.FinMap as map
 use Rattle.std.proofs.lemmas.List.{append-nil, take-append-drop, length-take-le}
@@ -13,7 +13,7 @@ use Rattle.response_rules.specs.Reads.{HasRead as DeciderHasRead, head_of}
 use Rattle.media_state.specs.declared.states.MediaState.{MediaState}
 use Rattle.orb_engine.specs.HeadReads.{ReadsWell}
 use Rattle.orb_engine.proofs.AnswerLaws.{refusal-stands, items-longer}
-use Rattle.orb_io.specs.Told.{Gains, IsPrefix}
+use Rattle.orb_io.specs.Told.{Gains}
 use Rattle.http_exchange.specs.Reading.{ReadsRequestHead, ReadsResponseHead}
 use Rattle.http_exchange.specs.declared.refusals.BadKind.{BadKind}
 use Rattle.http_exchange.specs.declared.request.RequestHead.{RequestHead}
@@ -32,10 +32,10 @@ use Rattle.orb_engine.specs.Ends as ends
 use Rattle.orb_engine.specs.Ends.{End, stop_of}
 use Rattle.orb_engine.specs.Outputs.{output_of, written_items, written_tail}
 use Rattle.orb_engine.specs.Counts.{rules_of, rules_of_items, rules_of_tail}
-use Rattle.orb_engine.specs.Writing.{IsWriterFor, box_of}
+use Rattle.orb_engine.specs.Writing.{box_of}
 use Rattle.orb_engine.specs.Reads.{open_cut, table_of, counts_of, IsTold, Common, Asks, Answers, Stands, Reads, IsStop, Stops, Breaks, Halts, Goes, Takes, HasOpenRequest, HasWholeRequest, HasOpenResponse, HasWholeResponse, HasReadHeads}
 use Rattle.orb_engine.proofs.CutLemmas.{spell_items-append, spell_items-length}
-use Rattle.orb_engine.proofs.FillLemmas.{empty-open, output-asking, rules-asking, stands-as}
+use Rattle.orb_engine.proofs.FillLemmas.{empty-open, output-asking, stands-as}
 
 -- no output comes of these tails
 pub output-quiet : (s : Settings) (items : List Item) (t : Tail) (more : List ℕ) (ended : Bool)

@@ -1,6 +1,6 @@
 -- A full box stays full: the laws of `IsBehind`.
-use Rattle.std.proofs.Common.{◌≡◌, ℕ, ◌≤◌, List, length, refl, inl, inr, arith, ◌∙◌}
-use Rattle.orb_engine.specs.Boxes.{BoxState, IsBehind, box_room}
+use Rattle.std.proofs.Common.{refl, inl, inr, arith, ◌∙◌}
+use Rattle.orb_engine.specs.Boxes.{BoxState, IsBehind}
 
 pub IsBehind-same : (b : BoxState) → IsBehind b b
 IsBehind-same b = record { more = omega arith; full = inl refl }

@@ -1,5 +1,5 @@
 -- What closing an exchange does.
-use Rattle.std.specs.Prelude.{◌≡◌, ℕ, ◌+◌, Bool, List, [], ◌∷◌, ◌++◌, length, Option, Some, None, Result, Ok, Err}
+use Rattle.std.specs.Prelude.{◌≡◌, ℕ, ◌+◌, List, [], ◌∷◌, ◌++◌, length, Option, Some, None, Result, Ok, Err}
 use Rattle.std.specs.FinMap as map
 use Rattle.orb_io.specs.Told.{Gains, IsPrefix}
 use Rattle.response_rules.specs.declared.rules.Rule.{Rule}

@@ -1,5 +1,5 @@
 -- Where a recording ends. A place is that of a byte, counted from 0.
-use Rattle.std.specs.Prelude.{ℕ, ◌+◌, Bool, true, false, List, [], ◌∷◌, length, Option, Some, None, if◌then◌else◌}
+use Rattle.std.specs.Prelude.{ℕ, ◌+◌, Bool, true, false, [], ◌∷◌, length, Option, Some, None, if◌then◌else◌}
 use Rattle.std.specs.FinMap as map
 use Rattle.media_state.specs.Table.{States}
 use Rattle.response_rules.specs.declared.rules.Rule.{Rule}

@@ -1,7 +1,6 @@
 -- The two heads of an exchange, and what they say.
-use Rattle.std.specs.Prelude.{◌≡◌, ℕ, Bool, true, false, List, Option, Some, None, Result, Ok, Err, if◌then◌else◌, unwrap_or}
+use Rattle.std.specs.Prelude.{◌≡◌, ℕ, Bool, true, false, List, Option, Some, None, Ok, if◌then◌else◌, unwrap_or}
 use Rattle.std.specs.FinMap as map
-use Rattle.std.specs.Ordering.{nat_cmp}
 use Rattle.httparse.specs.Grammar.{status_code, ResponseHead}
 use Rattle.media_state.specs.Table.{States, admitted, HasNoRoom}
 use Rattle.media_state.specs.declared.states.MediaState.{MediaState}

@@ -1,7 +1,6 @@
 -- What the table of media states answers a request.
 use Rattle.std.specs.Prelude.{◌≡◌, ℕ, true, Option, Some, None, Result, Ok, Err}
 use Rattle.std.specs.FinMap as map
-use Rattle.std.specs.Ordering.{nat_cmp}
 use Rattle.media_state.specs.Table.{States}
 use Rattle.media_state.specs.declared.states.MediaState.{MediaState}
 use Rattle.media_state.specs.declared.table.Full.{Full}

@@ -1,6 +1,6 @@
 -- What is written of a recording: by the job `Filter` the responses that are allowed and a reply in the place of
 -- each other, and by the job `Explain` a line for each whole exchange.
-use Rattle.std.specs.Prelude.{ℕ, suc, ◌+◌, Bool, true, false, ◌&&◌, not, List, [], ◌∷◌, ◌++◌, length, Option, Some, None, if◌then◌else◌, codes, decimal}
+use Rattle.std.specs.Prelude.{ℕ, ◌+◌, Bool, true, false, ◌&&◌, List, [], ◌∷◌, ◌++◌, length, Option, Some, None, if◌then◌else◌, codes, decimal}
 use Rattle.std.specs.FinMap as map
 use Rattle.media_state.specs.Table.{States}
 use Rattle.media_state.specs.declared.states.MediaState.{MediaState}
@@ -12,7 +12,7 @@ use Rattle.body_filter.specs.Exchanges.{Exchange, front_of, whole_of}
 use Rattle.orb_engine.specs.declared.settings.Job.{Job}
 use Rattle.orb_engine.specs.declared.settings.Job.TheVariants.{Filter, Explain}
 use Rattle.orb_engine.specs.declared.settings.Settings.{Settings}
-use Rattle.orb_engine.specs.Heads.{Heads, exchange_of, is_to_end, state_of}
+use Rattle.orb_engine.specs.Heads.{exchange_of, is_to_end}
 use Rattle.orb_engine.specs.Recording as cut
 use Rattle.orb_engine.specs.Recording.{Item, Tail, Recording, table_after, table_behind}
 

@@ -1,5 +1,5 @@
 -- What an engine has read of a recording, and what its calls answer.
-use Rattle.std.specs.Prelude.{◌≡◌, ℕ, ◌+◌, ◌≤◌, Bool, true, false, List, [], ◌++◌, length, Option, Some, None, Result, Ok, Err, if◌then◌else◌}
+use Rattle.std.specs.Prelude.{◌≡◌, ℕ, ◌+◌, Bool, true, false, List, [], ◌++◌, length, Option, Result, Ok, Err, if◌then◌else◌}
 use Rattle.std.specs.FinMap as map
 use Rattle.orb_io.specs.Told.{Gains, IsPrefix, Rose}
 use Rattle.response_rules.specs.declared.rules.Rule.{Rule}
@@ -27,7 +27,6 @@ use Rattle.orb_engine.specs.Ends as ends
 use Rattle.orb_engine.specs.Ends.{End, stop_of, response_place}
 use Rattle.orb_engine.specs.Outputs.{output_of, written_items, written_front}
 use Rattle.orb_engine.specs.Counts.{rules_of_items, rules_of, count_allowed, count_blocked}
-use Rattle.orb_engine.specs.Boxes.{empty_box}
 use Rattle.orb_engine.specs.Workers.{IsNewFor}
 use Rattle.orb_engine.specs.Writing.{IsWriterFor, WriterReads, box_of}
 

@@ -1,6 +1,6 @@
 -- A recording of HTTP/1.1 exchanges, one behind the other: whole exchanges, and what stands behind them, which
 -- may go on to be one, or is refused.
-use Rattle.std.specs.Prelude.{◌≡◌, ℕ, ◌⊎◌, Bool, true, false, List, [], ◌∷◌, ◌++◌, Option, Some, None, Result, Err}
+use Rattle.std.specs.Prelude.{◌≡◌, ℕ, ◌⊎◌, Bool, true, false, List, [], ◌∷◌, ◌++◌, Some, None, Err}
 use Rattle.std.specs.FinMap as map
 use Rattle.media_state.specs.Table.{States}
 use Rattle.media_state.specs.declared.states.MediaState.{MediaState}
@@ -14,7 +14,7 @@ use Rattle.http_exchange.specs.declared.refusals.BadKind.{BadKind}
 use Rattle.http_exchange.specs.declared.frames.BodyFrame.TheVariants as frame
 use Rattle.orb_engine.specs.declared.settings.Settings.{Settings}
 use Rattle.orb_engine.specs.Texts.{IsHeadText, IsOpenHead, IsLongHead}
-use Rattle.orb_engine.specs.Heads.{Request, Response, Heads, IsRequestHead, IsRequestIn, IsRefusedId, AreHeads, id_of, keeps, state_of, judged_by}
+use Rattle.orb_engine.specs.Heads.{Request, Heads, IsRequestHead, IsRequestIn, IsRefusedId, AreHeads, id_of, keeps, state_of, judged_by}
 
 -- a whole exchange
 pub record Item : Type 0 where

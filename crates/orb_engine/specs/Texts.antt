@@ -1,5 +1,5 @@
 -- The texts of heads in a recording: a head runs to its first empty line, and has at most 65,536 bytes.
-use Rattle.std.specs.Prelude.{◌≡◌, ℕ, ◌<◌, ◌≤◌, List, length, Option, Some, None}
+use Rattle.std.specs.Prelude.{◌≡◌, ℕ, ◌<◌, ◌≤◌, List, length, Some, None}
 use Rattle.http_exchange.specs.Head.{head_length}
 
 -- the most bytes of a head

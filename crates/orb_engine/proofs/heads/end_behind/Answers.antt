@@ -1,6 +1,5 @@
 use Rattle.std.proofs.Common.{◌≡◌, ◌++◌, take, None, Some, refl, sym, ◌∙◌}
 use Rattle.http_exchange.specs.Head.{head_length}
-use Rattle.orb_engine.specs.Gathering.{EndsBehind}
 use Rattle.orb_engine.proofs.HeadLemmas.{last_three, ends_in_seam, ends_in_piece}
 use Rattle.orb_engine.proofs.heads.end_behind.Goals as goal
 

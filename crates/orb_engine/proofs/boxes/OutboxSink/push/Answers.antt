@@ -1,4 +1,4 @@
-use Rattle.std.proofs.Common.{◌≡◌, ◌++◌, ℕ, ◌+◌, ◌-◌, ◌^◌, ◌≤◌, List, length, take, drop, min, refl, sym, ap, ◌∙◌, inr, arith, length-append, length-take}
+use Rattle.std.proofs.Common.{◌≡◌, ◌++◌, ◌-◌, length, drop, sym, ap, ◌∙◌, inr, arith, length-append, length-take}
 use Rattle.std.proofs.lemmas.List.{take-append-drop}
 use Rattle.orb_engine.specs.Boxes.{BoxState, box_room}
 use Rattle.orb_engine.proofs.boxes.OutboxSink.push.Goals as goal

@@ -1,4 +1,4 @@
-use Rattle.std.proofs.Common.{◌≡◌, [], ◌++◌, length, take, refl, sym, ap, subst, ◌∙◌, arith}
+use Rattle.std.proofs.Common.{[], ◌++◌, take, refl, sym, arith}
 use Rattle.std.proofs.lemmas.List.{append-nil, length-take-le}
 use Rattle.orb_io.proofs.ToldLemmas.{Gains-none}
 use Rattle.orb_engine.proofs.HeadStepLemmas.{open-request, reads-request, request-more, request-whole, request-long, goes-none, takes-front, halts-piece}

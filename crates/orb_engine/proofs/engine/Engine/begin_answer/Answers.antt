@@ -1,5 +1,4 @@
-use Rattle.std.proofs.Common.{◌≡◌, [], refl, sym, ap, subst, ◌∙◌}
-use Rattle.std.proofs.lemmas.List.{append-nil}
+use Rattle.std.proofs.Common.{refl}
 use Rattle.orb_io.proofs.ToldLemmas.{Gains-none}
 use Rattle.orb_engine.proofs.HeadStepLemmas.{request-bad, request-full, request-good, reads-response, goes-none}
 use Rattle.orb_engine.proofs.engine.Engine.begin_answer.Goals as goal

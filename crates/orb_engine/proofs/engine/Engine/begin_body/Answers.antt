@@ -1,4 +1,4 @@
-use Rattle.std.proofs.Common.{◌≡◌, refl, sym, ap, subst, ◌∙◌}
+use Rattle.std.proofs.Common.{refl}
 use Rattle.orb_io.proofs.ToldLemmas.{Gains-none}
 use Rattle.orb_engine.proofs.HeadStepLemmas.{response-good, response-bad}
 use Rattle.orb_engine.proofs.engine.Engine.begin_body.Goals as goal

@@ -1,4 +1,4 @@
-use Rattle.std.proofs.Common.{◌≡◌, [], Bool, List, ℕ, refl, sym, ap, subst, ◌∙◌}
+use Rattle.std.proofs.Common.{[], refl, ap, subst, ◌∙◌}
 use Rattle.body_filter.specs.Exchanges.{Exchange}
 use Rattle.orb_engine.specs.Heads.{judged_by}
 use Rattle.orb_engine.specs.Outputs.{written_front}

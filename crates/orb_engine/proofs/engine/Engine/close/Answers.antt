@@ -1,8 +1,5 @@
-use Rattle.std.proofs.Common.{◌≡◌, Some, Option, Result, Ok, Err, refl, sym, ap, ◌∙◌}
+use Rattle.std.proofs.Common.{refl, sym, ◌∙◌}
 use Rattle.orb_io.proofs.ToldLemmas.{Gains-none}
-use Rattle.response_rules.specs.Tables.{window_rule_of}
-use Rattle.orb_engine.specs.Heads.{judged_by}
-use Rattle.orb_engine.specs.Reads.{table_of}
 use Rattle.orb_engine.proofs.ClosingLemmas.{some-of, as_closes}
 use Rattle.orb_engine.proofs.engine.Engine.close.Goals as goal
 

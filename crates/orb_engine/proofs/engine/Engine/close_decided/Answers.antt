@@ -1,10 +1,6 @@
-use Rattle.std.proofs.Common.{◌≡◌, ◌+◌, ◌++◌, ◌∷◌, [], length, refl, sym, ap, ◌∙◌, cond}
-use Rattle.std.specs.Prelude.{is_some}
+use Rattle.std.proofs.Common.{◌+◌, ◌++◌, length, refl, sym, ap, ◌∙◌}
 use Rattle.std.specs.FinMap as map
-use Rattle.response_rules.specs.Rules.{is_allowing}
-use Rattle.response_rules.specs.Tables.{window_rule_of}
-use Rattle.orb_engine.specs.Heads.{id_of, admits, exchange_of, judged_by}
-use Rattle.orb_engine.specs.Media.{IsKept, stored}
+use Rattle.orb_engine.specs.Heads.{id_of, exchange_of}
 use Rattle.orb_engine.specs.Outputs.{written_items, written_front, written_whole}
 use Rattle.orb_engine.specs.Counts.{rules_of_items}
 use Rattle.orb_engine.specs.Reads.{table_of, count_with, counts_of}

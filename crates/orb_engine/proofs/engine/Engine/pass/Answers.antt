@@ -1,4 +1,4 @@
-use Rattle.std.proofs.Common.{refl, sym}
+use Rattle.std.proofs.Common.{refl}
 use Rattle.orb_engine.specs.Heads.{exchange_of}
 use Rattle.orb_engine.specs.Reads.{table_of}
 use Rattle.orb_engine.proofs.StepLemmas.{settles-behind}

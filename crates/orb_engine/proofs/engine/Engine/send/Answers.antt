@@ -1,4 +1,4 @@
-use Rattle.std.proofs.Common.{◌≡◌, ◌++◌, take, refl, sym, ap, subst, ◌∙◌, arith}
+use Rattle.std.proofs.Common.{◌++◌, take, refl, arith}
 use Rattle.orb_io.proofs.ToldLemmas.{Gains-none}
 use Rattle.orb_engine.proofs.PassLemmas.{in-sending, passes-at}
 use Rattle.orb_engine.proofs.BodyStepLemmas.{open-body, body-got, body-bad, not-zero}

@@ -1,8 +1,8 @@
-use Rattle.std.proofs.Common.{◌≡◌, [], ◌++◌, ◌+◌, ◌≤◌, ℕ, List, length, take, drop, false, refl, sym, ap, subst, ◌∙◌, arith, append_assoc, length-append}
+use Rattle.std.proofs.Common.{◌≡◌, [], ◌++◌, ℕ, List, take, drop, false, refl, sym, ap, subst, ◌∙◌, arith, append_assoc, length-append}
 use Rattle.std.proofs.lemmas.Bool.{eqb-true}
 use Rattle.std.proofs.lemmas.List.{append-nil, nil_from_length, take-append-drop, length-take-le}
 use Rattle.orb_io.proofs.ToldLemmas.{Gains-none}
-use Rattle.orb_engine.specs.Reads.{Reads, Goes, Halts}
+use Rattle.orb_engine.specs.Reads.{Reads}
 use Rattle.orb_engine.proofs.HeadStepLemmas.{takes-goes, goes-none}
 use Rattle.orb_engine.proofs.StepLemmas.{goes-behind, halts-behind, goes-at, halts-at}
 use Rattle.orb_engine.proofs.engine.Engine.take_all.Goals as goal

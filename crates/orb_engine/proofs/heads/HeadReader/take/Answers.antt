@@ -1,4 +1,4 @@
-use Rattle.std.proofs.Common.{◌≡◌, ◌+◌, ◌-◌, ◌++◌, length, take, List, ℕ, None, Some, refl, sym, ap, ◌∙◌, arith}
+use Rattle.std.proofs.Common.{◌≡◌, ◌+◌, ◌-◌, ◌++◌, length, None, Some, refl, ap, ◌∙◌, arith}
 use Rattle.http_exchange.specs.Head.{head_length}
 use Rattle.orb_engine.specs.Texts.{head_limit}
 use Rattle.orb_engine.specs.Gathering.{EndsBehind}

@@ -1,4 +1,4 @@
-use Rattle.std.proofs.Common.{◌≡◌, [], refl, sym, ap, ◌∙◌}
+use Rattle.std.proofs.Common.{[], sym, ◌∙◌}
 use Rattle.body_filter.specs.Exchanges.{exchange_of}
 use Rattle.orb_io.proofs.ToldLemmas.{Gains-none}
 use Rattle.std.proofs.lemmas.Result.{on_ok_weaker, on_err_weaker}

@@ -1,4 +1,4 @@
-use Rattle.std.proofs.Common.{◌≡◌, [], ◌++◌, refl, sym, ap, ◌∙◌}
+use Rattle.std.proofs.Common.{◌≡◌, sym, ap, ◌∙◌}
 use Rattle.orb_engine.specs.Outputs.{written_front}
 use Rattle.orb_engine.proofs.WorkLemmas.{for-filter, for-explain, reads-filter, reads-explain, filter-ends, front-filter, front-explain, line-written, line-put, line-broken}
 use Rattle.std.proofs.lemmas.Result.{on_err_weaker, IfOk-weaker}

@@ -1,10 +1,10 @@
-use Rattle.std.proofs.Common.{◌≡◌, [], length, refl, sym, ap, subst, ◌∙◌}
+use Rattle.std.proofs.Common.{[], length, refl, sym, ap, subst, ◌∙◌}
 use Rattle.orb_io.proofs.ToldLemmas.{Gains-none}
 use Rattle.body_filter.specs.Exchanges.{exchange_of}
 use Rattle.orb_engine.specs.declared.worker.Worker.{Worker}
 use Rattle.orb_engine.specs.Outputs.{written_front}
-use Rattle.orb_engine.specs.Workers.{IsWorkerFor, Works}
-use Rattle.orb_engine.specs.Writing.{WriterReads, box_of}
+use Rattle.orb_engine.specs.Workers.{IsWorkerFor}
+use Rattle.orb_engine.specs.Writing.{box_of}
 use Rattle.orb_engine.proofs.WorkLemmas.{front-none}
 use Rattle.orb_engine.proofs.GatherLemmas.{boxed-ok, boxed-err, direct, flush-broken}
 use Rattle.orb_engine.proofs.writer.Writer.begin.Goals as goal

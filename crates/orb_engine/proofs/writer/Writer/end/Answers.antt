@@ -1,9 +1,9 @@
-use Rattle.std.proofs.Common.{◌≡◌, ◌+◌, ◌*◌, ◌≤◌, [], ◌++◌, length, refl, sym, ap, subst, ◌∙◌, arith}
+use Rattle.std.proofs.Common.{refl, sym, ap, subst, ◌∙◌, arith}
 use Rattle.orb_io.proofs.ToldLemmas.{Gains-none}
 use Rattle.orb_engine.specs.declared.worker.Worker.{Worker}
 use Rattle.orb_engine.specs.Outputs.{written_front, written_whole}
-use Rattle.orb_engine.specs.Workers.{IsWorkerFor, Works}
-use Rattle.orb_engine.specs.Writing.{WriterReads, box_of}
+use Rattle.orb_engine.specs.Workers.{Works}
+use Rattle.orb_engine.specs.Writing.{box_of}
 use Rattle.orb_engine.proofs.WorkLemmas.{whole-most}
 use Rattle.orb_engine.proofs.GatherLemmas.{boxed-ok, boxed-err, direct, flush-broken}
 use Rattle.orb_engine.proofs.writer.Writer.end.Goals as goal
