@@ -1,17 +1,15 @@
 -- The spans that the parser finds are good to read the fields by.
-use Rattle.std.proofs.Common.{◌≡◌, ℕ, ◌+◌, ◌-◌, ◌<◌, ◌≤◌, List, [], ◌∷◌, ◌++◌, Bool, true, false, cond, reverse, length, map, refl, ap, ◌∙◌, arith, length-append}
+use Rattle.std.proofs.Common.{◌≡◌, ℕ, ◌<◌, ◌≤◌, List, [], ◌∷◌, ◌++◌, Bool, true, false, cond, reverse, length, map, refl, ap, ◌∙◌, arith, length-append}
 use Rattle.std.specs.Prelude.{All, sum_by, slice_range}
 use Rattle.std.specs.List.{flat_map}
 use Rattle.std.proofs.lemmas.List.{length-reverse}
 use Rattle.std.proofs.lemmas.List.Sums.{sum_by-cons}
 use Rattle.std.proofs.lemmas.List.Elements.{All-head, All-tail, All-cons, All-nil}
-use Rattle.httparse.specs.Grammar.{Field, IsField, field_value, is_ows, trim_ows, skip_ows, print_field, print_end, print_section, LineEnd, crlf, lf, RequestHead, ResponseHead, print_request, print_response}
+use Rattle.httparse.specs.Grammar.{Field, IsField, is_ows, trim_ows, skip_ows, print_field, print_end, print_section, LineEnd, crlf, lf, RequestHead, ResponseHead, print_request, print_response}
 use Rattle.httparse.proofs.RunLemmas.{length-slice_range}
 use Rattle.httparse.specs.Spans.{name_and_value, header_bytes, IsHeaderWithin}
 use Rattle.httparse.specs.declared.spans.HeaderSpan.{HeaderSpan}
-use Rattle.header_values.specs.declared.fields.FieldSpan.{FieldSpan}
-use Rattle.header_values.specs.Fields.{AreFields, IsFieldSpan, pair_at, field_size, pairs_of as pairs_of_spans}
-use Rattle.http_exchange.specs.Fields.{pairs_of}
+use Rattle.header_values.specs.Fields.{IsFieldSpan, field_size, pairs_of as pairs_of_spans}
 use Rattle.http_exchange.specs.Spans.{field_span, HasFields}
 
 -- a span of the one kind reads what the same span of the other kind does

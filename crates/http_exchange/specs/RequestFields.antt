@@ -1,6 +1,6 @@
 -- What the fields of a request say (Fetch Metadata 2, RFC 9112 6.1 and 6.2). Values are joined where
 -- a name stands more than once, and taken without white space at their ends.
-use Rattle.std.specs.Prelude.{ℕ, Bool, true, false, ◌&&◌, ◌||◌, not, if◌then◌else◌, List, Option, Some, None, Result, Ok, Err, codes, bytes_eq, is_some}
+use Rattle.std.specs.Prelude.{ℕ, Bool, false, ◌&&◌, ◌||◌, not, if◌then◌else◌, List, Option, Some, None, Result, Ok, Err, codes, bytes_eq, is_some}
 use Rattle.std.specs.Option.{option_map}
 use Rattle.orb_bytes.specs.Bytes.{is_http_whitespace}
 use Rattle.orb_bytes.specs.Decimal.{decimal_of}

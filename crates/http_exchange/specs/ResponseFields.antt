@@ -1,5 +1,5 @@
 -- How the body of a response is framed (RFC 9112 6.3, RFC 9110 15.2).
-use Rattle.std.specs.Prelude.{ℕ, Bool, true, false, ◌&&◌, ◌||◌, ◌==◌, not, nat_le, if◌then◌else◌, List, [], ◌∷◌, Option, Some, None, Result, Ok, Err, codes, is_some}
+use Rattle.std.specs.Prelude.{ℕ, Bool, false, ◌&&◌, ◌||◌, ◌==◌, not, nat_le, if◌then◌else◌, List, [], ◌∷◌, Option, Some, None, Result, Ok, Err, codes, is_some}
 use Rattle.std.specs.List.{list_all}
 use Rattle.orb_bytes.specs.Decimal.{decimal_of}
 use Rattle.orb_bytes.specs.Fields.{same_name}
