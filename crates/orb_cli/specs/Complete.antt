@@ -1,21 +1,12 @@
 -- Where nothing fails, a whole recording and a text are answered `Done`.
-use Rattle.std.specs.Prelude.{◌≡◌, ℕ, ◌≤◌, true, List, [], length, Option, Some}
+use Rattle.std.specs.Prelude.{◌≡◌, ℕ, true, List, [], Option, Some}
 use Rattle.orb_io.specs.Told.{Gains}
 use Rattle.orb_engine.specs.declared.settings.Settings.{Settings}
-use Rattle.orb_engine.specs.Recording.{Recording, IsRecording}
-use Rattle.orb_engine.specs.Ends as ends
-use Rattle.orb_engine.specs.Ends.{stop_of}
+use Rattle.orb_engine.specs.Recording.{Recording}
 use Rattle.orb_engine.specs.Outputs.{output_of}
-use Rattle.orb_engine.specs.Runs.{run_limit}
 use Rattle.orb_cli.specs.MimeLine.{IsMimeLine}
 use Rattle.orb_cli.specs.declared.outcome.Outcome.{Outcome}
 use Rattle.orb_cli.specs.declared.outcome.Outcome.TheVariants as outcomes
-
--- the bytes are this recording, which ends behind a whole exchange, and one run takes so many
-pub record IsWholeRecording (s : Settings) (bytes : List ℕ) (r : Recording) : Type 0 where
-  pub cut : IsRecording s bytes r
-  pub done : stop_of s r true ≡ ends.Done
-  pub fits : length bytes ≤ run_limit
 
 -- all bytes were read and all that is written of them was written, or there was no memory and nothing was
 abbrev pub IsComplete : Settings → (bytes : List ℕ) → Recording

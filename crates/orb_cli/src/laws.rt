@@ -3,10 +3,11 @@ ghost use Rattle.std.specs.Prelude.{◌≡◌, ℕ, List, Option, Some};
 ghost use Rattle.orb_io.specs.Told.{Rose};
 ghost use Rattle.orb_engine.specs.declared.settings.Settings.{Settings};
 ghost use Rattle.orb_engine.specs.Recording.{Recording};
+ghost use Rattle.orb_engine.specs.Complete.{IsWholeRecording};
 ghost use Rattle.orb_cli.specs.declared.outcome.Outcome.{Outcome};
 ghost use Rattle.orb_cli.specs.Words.{Judge, Mime};
 ghost use Rattle.orb_cli.specs.Answer.{Ran, HasCauses};
-ghost use Rattle.orb_cli.specs.Complete.{IsWholeRecording, IsComplete, IsCompleteText};
+ghost use Rattle.orb_cli.specs.Complete.{IsComplete, IsCompleteText};
 
 /// Law: where no count of faults rose, [`crate::run`] answers `Done`, or `NoMemory` with nothing read and written.
 ///

@@ -12,6 +12,7 @@ pub mod TailLaws
 pub mod ItemLaws
 pub mod RecordingLaws
 pub mod AnswerLaws
+pub mod CompleteLemmas
 pub mod RunLemmas
 pub mod FillLemmas
 pub mod StepLemmas

@@ -16,4 +16,5 @@ pub mod WorkerLaws
 pub mod Reads
 pub mod Closing
 pub mod Runs
+pub mod Complete
 pub mod Turns

@@ -1,13 +1,17 @@
-//! Laws of the definitions of a recording.
-ghost use Rattle.std.specs.Prelude.{◌≡◌, ◌≢◌, ◌↔◌, ℕ, Bool, true, false, List, ◌++◌};
-ghost use Rattle.orb_io.specs.Told.{IsPrefix};
+//! Laws of the definitions of a recording, and of runs over whole ones.
+ghost use Rattle.std.specs.Prelude.{◌≡◌, ◌≢◌, ◌↔◌, ℕ, Bool, true, false, List, [], ◌++◌, Option, Some};
+ghost use Rattle.orb_io.specs.Told.{IsPrefix, Rose};
 ghost use Rattle.response_rules.specs.declared.rules.Rule.{Rule};
 ghost use Rattle.orb_engine.specs.declared.settings.Settings.{Settings};
+ghost use Rattle.orb_engine.specs.declared.engine.Engine.{Engine};
+ghost use Rattle.orb_engine.specs.declared.outcome.EngineOutcome.{EngineOutcome};
 ghost use Rattle.orb_engine.specs.Recording.{Item, Recording, IsRecording, is_open};
 ghost use Rattle.orb_engine.specs.Ends.{Open, stop_of};
 ghost use Rattle.orb_engine.specs.Outputs.{output_of};
 ghost use Rattle.orb_engine.specs.Counts.{rules_of};
 ghost use Rattle.orb_engine.specs.Refusals.{IsAnsweredAs};
+ghost use Rattle.orb_engine.specs.Runs.{Ran, RunCauses};
+ghost use Rattle.orb_engine.specs.Complete.{IsWholeRecording, IsAll, IsComplete};
 
 /// Law: bytes are one recording at most, in all that is answered of it: its whole exchanges, where it ends,
 /// what is written of it, and the rules that decide its exchanges.
@@ -52,4 +56,24 @@ pub fn output_grows()
     ensures rules { (s : Settings) (m more : List ℕ) (a b : Recording)
         → IsRecording s m a → IsRecording s (m ++ more) b
         → (ended : Bool) → (others : List Rule) × (rules_of s b ended ≡ rules_of s a false ++ others) }
+{}
+
+/// Law: where no count of faults rose, [`crate::Engine::run`] and [`crate::Engine::run_link`] answer `Done` for
+/// a recording that ends behind a whole exchange or is empty, if the source tells its bytes and one run takes so
+/// many. All was read then, and all that is written of the recording was written.
+///
+/// Behind it stands that first bytes of such a recording are open until they are all of it.
+pub fn completeness()
+    ensures fronts { (s : Settings) (read rest : List ℕ) (r first : Recording) (ended : Bool)
+        → IsWholeRecording s (read ++ rest) r → IsRecording s read first
+        → (ended ≡ true → rest ≡ []) → stop_of s first ended ≢ Open
+        → IsAll s r first ended rest }
+    ensures runs { (o : EngineOutcome) (e : Engine) (s : Settings) (bytes : List ℕ) (r : Recording)
+        (left' put put' : Option (List ℕ)) (size size' : Option ℕ)
+        (source source' sink sink' : ℕ)
+        → IsWholeRecording s bytes r
+        → Ran o e s (Some bytes) left' put put' size size'
+        → RunCauses o source source' sink sink'
+        → ¬ (Rose source source') → ¬ (Rose sink sink')
+        → IsComplete o s r left' put put' size size' }
 {}

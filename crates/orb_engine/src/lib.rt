@@ -3,7 +3,8 @@
 //! `specs/Recording` says which bytes are a recording: whole exchanges one behind the other, and a tail that may
 //! go on to be one or is refused. `specs/Ends` says where it ends, `specs/Outputs` what is written of it, and
 //! `specs/Counts` which exchanges are counted: all over the whole list of bytes. Its laws (`laws`) are what
-//! a caller needs besides: bytes are one recording, a refusal stands, and output only grows.
+//! a caller needs besides: bytes are one recording, a refusal stands, output only grows, and where nothing fails
+//! a run over a whole recording is `Done` (`specs/Complete`).
 //!
 //! An [`Engine`] takes a recording in pieces, cut anywhere, or runs over a source and a sink. Behind each
 //! piece the sink has all output that the bytes so far settle. It takes memory only when it is opened.
@@ -35,6 +36,6 @@ mod worker;
 mod writer;
 
 pub use engine::Engine;
-pub use laws::{one_recording, output_grows, refusal_stays};
+pub use laws::{completeness, one_recording, output_grows, refusal_stays};
 pub use outcome::EngineOutcome;
 pub use settings::{Job, Settings};

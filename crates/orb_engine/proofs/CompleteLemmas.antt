@@ -1,0 +1,92 @@
+-- Where nothing fails, a run over a whole recording reads all of it and writes all that is written of it.
+use Rattle.std.proofs.Common.{◌≡◌, ℕ, ◌<◌, ◌≤◌, Bool, true, false, List, [], ◌∷◌, ◌++◌, length, Option, None, Some, refl, sym, ap, ◌∙◌, subst, arith}
+use Rattle.std.specs.FinMap as finite
+use Rattle.std.proofs.lemmas.List.{append-nil, length-append}
+use Rattle.orb_io.specs.Told.{Gains, Rose}
+use Rattle.media_state.specs.Table.{States}
+use Rattle.orb_engine.specs.declared.settings.Settings.{Settings}
+use Rattle.orb_engine.specs.declared.engine.Engine.{Engine}
+use Rattle.orb_engine.specs.declared.outcome.EngineOutcome.{EngineOutcome}
+use Rattle.orb_engine.specs.declared.outcome.EngineOutcome.TheVariants.{Done, Bad, Cut, HeadLimit, MediaFull, NotBuilt, Endless, ReadFault, WriteFault}
+use Rattle.orb_engine.specs.Recording as cut
+use Rattle.orb_engine.specs.Recording.{Tail, Recording, IsRecording, table_behind, spell_items}
+use Rattle.orb_engine.specs.Ends as ends
+use Rattle.orb_engine.specs.Ends.{End, stop_at, stop_of}
+use Rattle.orb_engine.specs.Outputs.{output_of}
+use Rattle.orb_engine.specs.Reads.{IsStop}
+use Rattle.orb_engine.specs.Runs.{run_limit, Ends, Ran, RunCauses}
+use Rattle.orb_engine.specs.Complete.{IsWholeRecording, IsAll, IsComplete}
+use Rattle.orb_engine.proofs.AnswerLaws.{one-stop, one-output, refusal-alone}
+
+-- no recording is done where more may come
+never_done : (s : Settings) (table : States) (place : ℕ) (t : Tail) → stop_at s table place false t ≡ ends.Done → ⊥
+never_done s table place (cut.Asking []) h = cc
+never_done s table place (cut.Asking (b ∷ head)) h = cc
+never_done s table place _ h = cc
+
+open_not_done : (s : Settings) (a : Recording) → stop_of s a false ≡ ends.Done → ⊥
+unfolding stop_of
+open_not_done s a h = never_done s (table_behind finite.empty a.items) (length (spell_items a.items [])) a.tail h
+
+pub front_is_all : (s : Settings) (read rest : List ℕ) (r a : Recording) (ended : Bool)
+    → IsWholeRecording s (read ++ rest) r → IsRecording s read a → (ended ≡ true → rest ≡ [])
+    → (stop_of s a ended ≡ ends.Open → ⊥) → IsAll s r a ended rest
+front_is_all s read rest r a false whole first all closed =
+    let same = refusal-alone s read rest a r first closed whole.cut in
+    absurd (open_not_done s a (sym (same.stop true) ∙ whole.done))
+front_is_all s read rest r a true whole first all closed =
+    let none : rest ≡ [] = all refl in
+    let same : read ++ rest ≡ read = ap (λ l. read ++ l) none ∙ append-nil read in
+    let one : IsRecording s read r = subst (λ m. IsRecording s m r) same whole.cut in
+    record {
+      stop = one-stop s read a r first one true ∙ whole.done;
+      none_left = none;
+      output = one-output s read a r first one true;
+    }
+
+-- there are no more bytes than one run takes
+pub whole_is_not_endless : (s : Settings) (bytes read rest : List ℕ) (r : Recording) → IsWholeRecording s bytes r → bytes ≡ read ++ rest
+    → run_limit < length read → ⊥
+whole_is_not_endless s bytes read rest r whole lost more =
+    let fits : length (read ++ rest) ≤ run_limit = subst (λ l. length l ≤ run_limit) lost whole.fits in
+    omega (arith, length-append read rest)
+
+-- an end that is not open is that of the whole recording
+ends_all : (e : Engine) (s : Settings) (bytes read rest : List ℕ) (r : Recording) (ended : Bool)
+    (put put' : Option (List ℕ)) (size size' : Option ℕ) (P : End → Type 0)
+    → IsWholeRecording s bytes r → bytes ≡ read ++ rest → (ended ≡ true → rest ≡ [])
+    → (h : Ends e s put put' size size' read [] ended P) → (P ends.Open → ⊥) → IsAll s r h.recording ended rest
+ends_all e s bytes read rest r ended put put' size size' P whole lost all h closed =
+    front_is_all s read rest r h.recording ended (subst (λ l. IsWholeRecording s l r) lost whole) h.cut all
+    (λ o. closed (subst P o h.stop))
+
+-- nor is it another end
+ends_no_other : (e : Engine) (s : Settings) (bytes read rest : List ℕ) (r : Recording) (ended : Bool)
+    (put put' : Option (List ℕ)) (size size' : Option ℕ) (P : End → Type 0)
+    → IsWholeRecording s bytes r → bytes ≡ read ++ rest → (ended ≡ true → rest ≡ [])
+    → Ends e s put put' size size' read [] ended P → (P ends.Open → ⊥) → (P ends.Done → ⊥) → ⊥
+ends_no_other e s bytes read rest r ended put put' size size' P whole lost all h closed other =
+    let a = ends_all e s bytes read rest r ended put put' size size' P whole lost all h closed in
+    other (subst P a.stop h.stop)
+
+pub run_is_complete : (o : EngineOutcome) (e : Engine) (s : Settings) (bytes : List ℕ) (r : Recording)
+    (left' put put' : Option (List ℕ)) (size size' : Option ℕ) (source source' sink sink' : ℕ)
+    → IsWholeRecording s bytes r → Ran o e s (Some bytes) left' put put' size size'
+    → RunCauses o source source' sink sink' → ¬ (Rose source source') → ¬ (Rose sink sink')
+    → IsComplete o s r left' put put' size size'
+run_is_complete o e s bytes r None put put' size size' m m' n n' whole ran causes calm calm' = absurd ran.lost
+run_is_complete Done e s bytes r (Some rest) put put' size size' m m' n n' whole ran causes calm calm' =
+    let h = ran.answers in
+    let all = ends_all e s bytes ran.read rest r ran.ended put put' size size' (IsStop Done) whole ran.lost ran.at_end h (λ o. cc) in
+    record {
+      done = refl;
+      left = ap Some all.none_left;
+      wrote = subst (λ l. Gains put put' size size' l) (h.gave ∙ all.output) h.gained;
+    }
+run_is_complete Endless e s bytes r (Some rest) put put' size size' m m' n n' whole ran causes calm calm' =
+    absurd (whole_is_not_endless s bytes ran.read rest r whole ran.lost ran.answers.0)
+run_is_complete ReadFault e s bytes r (Some rest) put put' size size' m m' n n' whole ran causes calm calm' = absurd (calm causes.0)
+run_is_complete WriteFault e s bytes r (Some rest) put put' size size' m m' n n' whole ran causes calm calm' = absurd (calm' causes.1)
+run_is_complete o e s bytes r (Some rest) put put' size size' m m' n n' whole ran causes calm calm' =
+    absurd (ends_no_other e s bytes ran.read rest r ran.ended put put' size size' (IsStop o) whole ran.lost ran.at_end ran.answers
+    (λ x. cc) (λ x. cc))
