@@ -99,15 +99,3 @@ items-few s table (i ∷ items) x are =
     let rest = items-few s (table_after table i) items x are.1 in
     let some = head_length-bounds i.heads.request.bytes (length i.heads.request.bytes) are.0.heads.request.head.text.ends in
     simp length-append (omega arith)
-
--- a recording whose tail goes on
-pub retail : (s : Settings) (m u : List ℕ) (items : List Item) (t t' : Tail) (more : List ℕ)
-    → IsRecording s m (open_cut items t) → spell_tail t [] ++ u ≡ spell_tail t' more
-    → IsTail s (table_of items) t' → (is_open t' ≡ true → more ≡ [])
-    → IsRecording s (m ++ u) (record { items = items; tail = t'; more = more })
-retail s m u items t t' more r spells tail last = record {
-  spells = ap (λ x. x ++ u) r.spells ∙ spell_items-append items (spell_tail t []) u ∙ ap (spell_items items) spells;
-  items = r.items;
-  tail = tail;
-  last = last;
-}

@@ -55,11 +55,6 @@ pub output-sending : (s : Settings) (items : List Item) (h : Heads) (sent body m
 unfolding output_of
 output-sending s items h sent body more = refl
 
-pub rules-asking : (s : Settings) (items : List Item) (head more : List ℕ) (ended : Bool)
-    → rules_of s (record { items = items; tail = cut.Asking head; more = more }) ended ≡ rules_of_items items
-unfolding rules_of
-rules-asking s items head more ended = append-nil _
-
 pub rules-undecided : (s : Settings) (items : List Item) (h : Heads) (sent body more : List ℕ) (ended : Bool)
     → rules_of s (record { items = items; tail = cut.Undecided h sent body; more = more }) ended ≡ rules_of_items items
 unfolding rules_of

@@ -92,23 +92,6 @@ stops-broken o e e' s a b c j k n m given ended stops counts broken =
           (counted-front e' s stops.recording.items (given ++ stops.pushed) pushed (rw counts stops.told));
     }
 
--- a step whose sink failed
-pub breaks-fail : (e e' : Engine) (s : Settings) (a b : Option (List ℕ)) (k n : Option ℕ) (m given : List ℕ) (ended : Bool)
-    → Breaks e s a b k n m given ended → e'.counts ≡ e.told → Fails e' s a b k n m given ended
-breaks-fail e e' s a b k n m given ended broken counts = record {
-  more = broken.pushed;
-  gained = broken.gained;
-  seen = broken.seen;
-  unseen = broken.unseen;
-  all = broken.all;
-  all_seen = broken.all_seen;
-  recording = broken.recording;
-  cut = broken.cut;
-  within = broken.within;
-  counted = subst (λ (t : List ℕ). HasCountedFront e' s broken.recording.items t) (append-nil (given ++ broken.pushed))
-      (counted-front e' s broken.recording.items (given ++ broken.pushed) [] (rw counts broken.told));
-}
-
 -- the answer behind a flush
 pub as-ends : (o : EngineOutcome) (e : Engine) (s : Settings) (a b : Option (List ℕ)) (k n : Option ℕ) (m given : List ℕ) (ended : Bool)
     → (o ≡ outcome.WriteFault → ⊥) → Ends e s a b k n m given ended (IsStop o) → EndsAs o e s a b k n m given ended
@@ -121,18 +104,6 @@ as-ends (outcome.MediaFull at) e s a b k n m given ended never h = h
 as-ends (outcome.NotBuilt at) e s a b k n m given ended never h = h
 as-ends outcome.Endless e s a b k n m given ended never h = h
 as-ends outcome.ReadFault e s a b k n m given ended never h = h
-
-pub as-stops : (o : EngineOutcome) (e : Engine) (s : Settings) (a b : Option (List ℕ)) (k n : Option ℕ) (m given : List ℕ) (ended : Bool)
-    → (o ≡ outcome.WriteFault → ⊥) → Halts o e s a b k n m given ended → Stops e s a b k n m given ended o
-as-stops outcome.WriteFault e s a b k n m given ended never h = absurd (never refl)
-as-stops outcome.Done e s a b k n m given ended never h = h
-as-stops (outcome.Bad kind at) e s a b k n m given ended never h = h
-as-stops (outcome.Cut at) e s a b k n m given ended never h = h
-as-stops (outcome.HeadLimit at) e s a b k n m given ended never h = h
-as-stops (outcome.MediaFull at) e s a b k n m given ended never h = h
-as-stops (outcome.NotBuilt at) e s a b k n m given ended never h = h
-as-stops outcome.Endless e s a b k n m given ended never h = h
-as-stops outcome.ReadFault e s a b k n m given ended never h = h
 
 -- an open tail adds no exchange
 open-rules : (s : Settings) (items : List Item) (t : Tail) → is_open t ≡ true → rules_of s (open_cut items t) false ≡ rules_of_items items
