@@ -9,6 +9,7 @@ use crate::{Engine, EngineOutcome, Job, Settings};
 use orb_io::{Duplex, Failed, MemoryLink, MemorySink, MemorySource, Sink, Source};
 use response_rules::Policy;
 use std::alloc::Global;
+use std::process::Abort;
 use std::test::Fail;
 
 const REQUEST: &[u8] = b"GET / HTTP/1.1\r\nSec-Fetch-Mode: no-cors\r\n\r\n";
@@ -259,31 +260,58 @@ fn in_chunks_of_one(alloc: Global, body: &[u8]) -> Result<Vec<u8>, Fail> {
     Ok(recording)
 }
 
-#[test]
-fn a_long_image_goes_out_from_its_window_on(rt: HostRuntime) -> Result<(), Fail> {
-    const PASSED: &[Owed] = &[Owed {
-        read: 1111,
-        put: 1068,
-        flows: true,
-    }];
-    const EXPLAINED: &[Owed] = &[Owed {
-        read: 2_097_245,
-        put: 25,
-        flows: false,
-    }];
-    let alloc = rt.alloc();
+/// What is owed of a long image at each pull: from the window on its bytes where it is filtered, and its line
+/// behind its last byte where it is explained.
+const LONG_IMAGE: [(Job, &[Owed]); 2] = [
+    (
+        Job::Filter,
+        &[Owed {
+            read: 1111,
+            put: 1068,
+            flows: true,
+        }],
+    ),
+    (
+        Job::Explain,
+        &[Owed {
+            read: 2_097_245,
+            put: 25,
+            flows: false,
+        }],
+    ),
+];
+
+/// Runs the job over a long image, with pulls of at most so many bytes.
+fn watch_long_image(
+    rt: &impl Abort,
+    alloc: Global,
+    job: Job,
+    piece: usize,
+    owed: &'static [Owed],
+) -> Result<(), Fail> {
     let zeros = vec![in alloc; 0u8; 2_097_152]?;
     let response = joined(alloc, &[GIF, b"GIF89a", &zeros])?;
-    let rows: [(Job, &'static [Owed], &[u8]); 2] = [
-        (Job::Filter, PASSED, &response),
-        (Job::Explain, EXPLAINED, b"1 allow image na 2097158\n"),
-    ];
-    for (job, owed, want) in rows {
-        let recording = joined(alloc, &[REQUEST, &response])?;
-        let (outcome, link) = run_watched(alloc, job, recording, 100, owed)?;
-        assert_eq!(rt; outcome, EngineOutcome::Done);
-        assert!(rt; link.exact, "{job:?}");
-        assert!(rt; link.link.sink().bytes() == want, "{job:?}");
+    let recording = joined(alloc, &[REQUEST, &response])?;
+    let (outcome, link) = run_watched(alloc, job, recording, piece.max(1), owed)?;
+    let want = match job {
+        Job::Filter => response.as_slice(),
+        Job::Explain => b"1 allow image na 2097158\n",
+    };
+    assert_eq!(rt; outcome, EngineOutcome::Done);
+    assert!(rt; link.exact, "{job:?} in pieces of {piece}");
+    assert!(rt;
+        link.link.sink().bytes() == want,
+        "{job:?} in pieces of {piece}"
+    );
+    Ok(())
+}
+
+#[test]
+fn a_long_image_goes_out_from_its_window_on(rt: HostRuntime) -> Result<(), Fail> {
+    for piece in [1, 7, 100, 4_194_304] {
+        for (job, owed) in LONG_IMAGE {
+            watch_long_image(&rt, rt.alloc(), job, piece, owed)?;
+        }
     }
     Ok(())
 }
