@@ -177,8 +177,14 @@ fn is_among(e: &Essence, essences: &[(&str, &str)]) -> bool
     ensures { result ≡ list_any
         (λ x. same_name e.now.main.now x.0.now && same_name e.now.sub.now x.1.now) essences.now }
 {
-    essences.iter().any(|(main, sub)| eq_ignore_case(e.main, main.as_bytes())
-        && eq_ignore_case(e.sub, sub.as_bytes()))
+    essences.iter().any(|(main, sub)| is_essence(e, main, sub))
+}
+
+/// Whether it is of this type and subtype. The subtype is asked first, since it tells more.
+fn is_essence(e: &Essence, main: &str, sub: &str) -> bool
+    ensures { result ≡ (same_name e.now.main.now main.now && same_name e.now.sub.now sub.now) }
+{
+    eq_ignore_case(e.sub, sub.as_bytes()) && eq_ignore_case(e.main, main.as_bytes())
 }
 
 /// Whether the text ends in the suffix, but for the case of its letters.

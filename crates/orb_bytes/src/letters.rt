@@ -14,5 +14,5 @@ pub fn lower(b: u8) -> u8
 pub fn eq_ignore_case(a: &[u8], b: &[u8]) -> bool
     ensures { result ≡ same_name a.now b.now }
 {
-    a.eq_ignore_ascii_case(b)
+    a == b || a.eq_ignore_ascii_case(b)
 }
