@@ -95,6 +95,7 @@ Ran-run o e t s left left' put put' size size' answer same is ran =
       lost = ran.lost;
       gained = judges.gained;
       at_end = ran.at_end;
+      fits = λ never. ran.fits (λ endless. never (ap outcome_of endless));
       answers = judges.says;
     } in
     subst (λ x. Ran (Some (Judge s)) left left' put put' size size' x) (sym is)

@@ -1,5 +1,5 @@
 -- What an answer of `run` says of the bytes read and written, and of the counts of faults.
-use Rattle.std.specs.Prelude.{◌≡◌, ℕ, ◌<◌, Bool, true, false, List, [], ◌++◌, length, take, Option, Some, None}
+use Rattle.std.specs.Prelude.{◌≡◌, ℕ, ◌<◌, ◌≤◌, Bool, true, false, List, [], ◌++◌, length, take, Option, Some, None}
 use Rattle.orb_io.specs.Told.{Loses, IsAtEnd, Gains, IsPrefix, Rose}
 use Rattle.orb_engine.specs.declared.settings.Settings.{Settings}
 use Rattle.orb_engine.specs.Recording.{Recording, IsRecording}
@@ -67,7 +67,8 @@ Answers None read ended wrote answer = (answer ≡ outcomes.Usage) × Untouched 
 Answers (Some asked) read ended wrote answer = IsAnswer asked read ended wrote answer
 
 -- The bytes that the source lost and that the sink gained, whether the input has ended, and what the
--- answer says of them. Each object tells its bytes or it doesn't.
+-- answer says of them. Each object tells its bytes or it doesn't. More than one run takes are lost only where the
+-- answer is Endless.
 pub record Ran
     (asked : Option Asked) (left left' put put' : Option (List ℕ)) (size size' : Option ℕ)
     (answer : Outcome) : Type 0 where
@@ -77,6 +78,7 @@ pub record Ran
   pub lost : Loses left left' read
   pub gained : Gains put put' size size' wrote
   pub at_end : ended ≡ true → IsAtEnd left'
+  pub fits : (answer ≡ outcomes.Endless → ⊥) → length read ≤ run_limit
   pub answers : Answers asked read ended wrote answer
 
 -- A read fault comes only where the source's count rose, a write fault only where the sink's did.

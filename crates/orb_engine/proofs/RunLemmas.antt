@@ -1,5 +1,5 @@
 -- A run, pull by pull.
-use Rattle.std.proofs.Common.{◌≡◌, ℕ, ◌^◌, ◌<◌, ◌≤◌, Bool, true, false, List, [], ◌∷◌, ◌++◌, length, length-append, take, Option, Some, None, Result, Ok, Err, refl, sym, ap, subst, ◌∙◌, arith}
+use Rattle.std.proofs.Common.{◌≡◌, ℕ, ◌+◌, ◌^◌, ◌<◌, ◌≤◌, Bool, true, false, List, [], ◌∷◌, ◌++◌, length, length-append, take, Option, Some, None, Result, Ok, Err, refl, sym, ap, subst, ◌∙◌, arith}
 use Rattle.std.specs.Prelude.{◌==◌}
 use Rattle.std.proofs.lemmas.List.{append-nil, length-take-le}
 use Rattle.std.proofs.lemmas.Bool.Decides.{nat_tests}
@@ -207,13 +207,15 @@ pull-ended (Err failed) a b room some h ended = absurd (let no : false ≡ true 
 pub run-ends : (r : Option EngineOutcome) (o : EngineOutcome) (p : Result ℕ Failed) (e e' : Engine) (s : Settings)
     (left left' left'' put put' put'' : Option (List ℕ)) (size size' size'' : Option ℕ) (room : List ℕ)
     → r ≡ Some o → 0 < length room → (w : Running e s left left' put put' size size') → Pulls left' left'' p room
+    → ((o ≡ outcome.Endless → ⊥) → e.taken + length (piece_of p room) ≤ 2 ^ 62)
     → TurnAnswers r e' s put put'' size size'' (w.read ++ piece_of p room) (is_ended p)
     → Ran o e' s left left'' put put'' size size''
-run-ends r o p e e' s left left' left'' put put' put'' size size' size'' room is some w pulls answers = record {
+run-ends r o p e e' s left left' left'' put put' put'' size size' size'' room is some w pulls within answers = record {
   read = w.read ++ piece_of p room;
   ended = is_ended p;
   lost = Loses-twice left left' left'' w.read (piece_of p room) w.lost (pull-lost p left' left'' room pulls);
   at_end = pull-ended p left' left'' room some pulls;
+  fits = λ never. omega (arith, limit-is, within never, w.goes.reads.reads.taken, length-append w.read (piece_of p room));
   answers = subst (λ (q : Option EngineOutcome). TurnAnswers q e' s put put'' size size'' (w.read ++ piece_of p room) (is_ended p)) is answers;
 }
 

@@ -128,12 +128,14 @@ RunAnswers outcome.Endless e s put put' size size' read ended =
 RunAnswers o e s put put' size size' read ended = Ends e s put put' size size' read [] ended (IsStop o)
 
 -- The bytes that the source lost, whether the input has ended, and what the answer says of what the sink gained.
+-- More than one run takes are lost only where the answer is Endless.
 pub record Ran (o : EngineOutcome) (e : Engine) (s : Settings) (left left' put put' : Option (List ℕ)) (size size' : Option ℕ)
     : Type 0 where
   pub read : List ℕ
   pub ended : Bool
   pub lost : Loses left left' read
   pub at_end : ended ≡ true → IsAtEnd left'
+  pub fits : (o ≡ outcome.Endless → ⊥) → length read ≤ run_limit
   pub answers : RunAnswers o e s put put' size size' read ended
 
 -- A read fault comes only where the source's count rose, a write fault only where the sink's did. Every

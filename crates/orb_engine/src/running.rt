@@ -3,6 +3,7 @@ ghost use Rattle.std.specs.Prelude.{◌≡◌, ◌≤◌, ◌<◌, ◌+◌, ◌^
 ghost use Rattle.std.specs.Result.{ForOk};
 ghost use Rattle.orb_io.specs.Told.{Gains, Pulls, HasCause};
 ghost use Rattle.orb_engine.specs.declared.settings.Settings.{Settings};
+ghost use Rattle.orb_engine.specs.declared.outcome.EngineOutcome.{EngineOutcome};
 ghost use Rattle.orb_engine.specs.Runs.{settings_of, taken_by, HasRead, CanFeed, Ran, RunCauses};
 ghost use Rattle.orb_engine.specs.Turns.{piece_of, is_ended, TurnAnswers, TurnCauses};
 
@@ -74,6 +75,8 @@ impl Engine {
             → TurnCauses result before after (O.faults output.old) (O.faults output.new) }
         ensures keeps { O.kept output.old output.new }
         ensures settings { settings_of self.new ≡ settings_of self.old }
+        ensures within { (o : EngineOutcome) → result ≡ Some o → (o ≡ EngineOutcome.Endless → ⊥)
+            → taken_by self.old + length (piece_of pulled room.now) ≤ 2 ^ 62 }
         ensures more { result ≡ None → taken_by self.old < taken_by self.new }
         ensures fits { result ≡ None → taken_by self.new ≤ 2 ^ 62 }
     {

@@ -1,4 +1,4 @@
-use Rattle.std.proofs.Common.{◌≡◌, true, false, [], Option, refl, sym, subst}
+use Rattle.std.proofs.Common.{◌≡◌, true, false, [], Option, refl, sym, subst, arith}
 use Rattle.orb_io.proofs.ToldLemmas.{Loses-none, Gains-none}
 use Rattle.orb_cli.specs.declared.outcome.Outcome.TheVariants.{Usage}
 use Rattle.orb_cli.specs.Words.{Asked}
@@ -18,6 +18,7 @@ returns-in-None-clause-ran g c =
       lost = Loses-none left;
       gained = Gains-none put size (g.met.O.Sink.number_fits c.args.output.now);
       at_end = λ is. absurd (let no : false ≡ true = is in cc);
+      fits = λ never. omega arith;
       answers = (refl, (refl, refl));
     })
 
@@ -34,6 +35,7 @@ returns-in-Some-Mime-clause-ran g c =
       lost = Loses-none left;
       gained = written.1;
       at_end = λ is. absurd (let no : false ≡ true = is in cc);
+      fits = λ never. omega arith;
       answers = written.2;
     })
 
