@@ -7,6 +7,7 @@ use Rattle.media_state.specs.declared.states.MediaState.{MediaState}
 use Rattle.media_state.specs.declared.states.MediaState.TheVariants.{Na, Initial}
 use Rattle.response_rules.specs.Heads.{Head, HasEssence}
 use Rattle.response_rules.specs.Reads.{head_of}
+use Rattle.body_filter.specs.Exchanges as filter
 use Rattle.body_filter.specs.Exchanges.{Exchange}
 use Rattle.http_exchange.specs.Heads.{IsResponse}
 use Rattle.http_exchange.specs.Fields.{pairs_of}
@@ -113,8 +114,4 @@ is_to_end frame.ToEnd = true
 
 -- the response, to be filtered
 abbrev pub exchange_of : Settings → States → Heads → Exchange
-exchange_of s table h = record {
-  head = judged_by s table h;
-  bytes = h.response.bytes;
-  chunked = is_chunked h.response.frame;
-}
+exchange_of s table h = filter.exchange_of (judged_by s table h) h.response.bytes (is_chunked h.response.frame)
