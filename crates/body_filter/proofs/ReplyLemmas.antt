@@ -1,33 +1,9 @@
 -- The reply.
-use Rattle.std.proofs.Common.{◌≤◌, [], ◌∷◌, length, lit≤, arith, length-append}
+use Rattle.std.proofs.Common.{◌≤◌, [], ◌∷◌, length, arith, length-append}
 use Rattle.response_rules.specs.declared.rules.Rule.{Rule}
-use Rattle.response_rules.specs.declared.rules.Rule.TheVariants as rule
 use Rattle.response_rules.specs.Rules.{name_of}
+use Rattle.response_rules.proofs.NameLemmas.{name-short}
 use Rattle.body_filter.specs.Reply.{reply_of}
-
-pub name-short : (r : Rule) → length (name_of r) ≤ 19
-unfolding name_of
-name-short rule.NotOpaque = lit≤ tt
-name-short rule.Safelisted = lit≤ tt
-name-short rule.NeverSniffed = lit≤ tt
-name-short rule.PartialBlocklisted = lit≤ tt
-name-short rule.NosniffBlocklisted = lit≤ tt
-name-short rule.Subsequent = lit≤ tt
-name-short rule.BadRange = lit≤ tt
-name-short rule.Coded = lit≤ tt
-name-short rule.MediaUnexpected = lit≤ tt
-name-short rule.MediaStatus = lit≤ tt
-name-short rule.Media = lit≤ tt
-name-short rule.MediaExpected = lit≤ tt
-name-short rule.Image = lit≤ tt
-name-short rule.Nosniff = lit≤ tt
-name-short rule.NotOk = lit≤ tt
-name-short rule.Untyped = lit≤ tt
-name-short rule.TypedMedia = lit≤ tt
-name-short rule.BodyLimit = lit≤ tt
-name-short rule.NotScript = lit≤ tt
-name-short rule.Json = lit≤ tt
-name-short rule.Script = lit≤ tt
 
 pub reply-short : (r : Rule) → length (reply_of r) ≤ 76
 unfolding reply_of

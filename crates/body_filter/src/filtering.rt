@@ -1,12 +1,12 @@
 //! A body held back, passed on or dropped.
 ghost use Rattle.std.specs.Prelude.{◌≤◌, vec_len, vec_capacity};
 
-use crate::appending::append;
 use crate::judging::{Judgement, finish, judge, read_on, within};
 use crate::phases::{Phase, idle_at_fault};
 use crate::pushing::{WriteFault, put_bytes};
 use crate::replying::put_reply;
 use crate::writing::{BodyWriter, put_whole, release};
+use orb_bytes::append;
 use orb_io::{NoMemory, Sink};
 use response_rules::{Decider, Rule, Verdict};
 use std::alloc::Global;

@@ -8,7 +8,6 @@
 //! memory.
 #![tactic(auto)]
 
-mod appending;
 #[cfg(test)]
 mod examples;
 mod filtering;

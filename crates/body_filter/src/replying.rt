@@ -3,9 +3,9 @@ ghost use Rattle.std.specs.Prelude.{◌≡◌};
 ghost use Rattle.orb_io.specs.Told.{Pushes, HasCause};
 ghost use Rattle.body_filter.specs.Reply.{reply_of};
 
-use crate::appending::extend;
 use crate::pushing::{WriteFault, put_bytes};
 use arrayvec::ArrayVec;
+use orb_bytes::extend;
 use orb_io::Sink;
 use response_rules::Rule;
 

@@ -2,8 +2,7 @@
 ghost use Rattle.std.specs.Prelude.{◌≡◌, ◌+◌, ◌≤◌, ◌++◌, length, vec_capacity, if◌then◌else◌, Some, None};
 ghost use Rattle.header_values.specs.Joined.{separator};
 
-use crate::scratch::append;
-use orb_bytes::eq_ignore_case;
+use orb_bytes::{append, eq_ignore_case};
 
 /// Where a field stands in its head: byte places, each end behind the last byte.
 #[derive(Clone, Copy, Debug, Default, PartialEq, Eq)]

@@ -2,7 +2,7 @@
 //!
 //! A call whose answer lies in the scratch takes the scratch first: the contract can then say that the
 //! room stays.
-ghost use Rattle.std.specs.Prelude.{◌≡◌, ◌+◌, ◌≤◌, ◌++◌, IfOk, length, vec_len, vec_capacity};
+ghost use Rattle.std.specs.Prelude.{◌≡◌, ◌≤◌, IfOk, length};
 
 use crate::fields::Fields;
 use orb_io::NoMemory;
@@ -59,18 +59,6 @@ impl Scratch {
         } else {
             None
         }
-    }
-}
-
-/// Appends the text, for which there is room.
-pub(crate) fn append(bytes: &mut Vec<u8>, text: &[u8])
-    requires { vec_len bytes.old + length text.now ≤ vec_capacity bytes.old }
-    ensures items { bytes.new.items ≡ bytes.old.items ++ text.now }
-    ensures capacity { vec_capacity bytes.old ≤ vec_capacity bytes.new }
-{
-    match bytes.extend_from_slice(text) {
-        Ok(()) => {}
-        Err(_) => unreachable!(),
     }
 }
 

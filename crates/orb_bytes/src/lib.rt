@@ -5,11 +5,13 @@
 //! Nothing here takes memory, and nothing fails but [`read_decimal`].
 #![tactic(auto)]
 
+mod appending;
 mod classes;
 mod letters;
 mod numbers;
 mod trimming;
 
+pub use appending::{append, extend};
 pub use classes::{
     is_http_ws, is_quoted_token, is_space_byte, is_tab_or_space, is_tag_end, is_token,
 };

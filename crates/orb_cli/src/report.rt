@@ -1,11 +1,11 @@
 //! What the program says of an outcome.
-ghost use Rattle.std.specs.Prelude.{◌≡◌, ◌≤◌, ◌+◌, ◌++◌, length};
+ghost use Rattle.std.specs.Prelude.{◌≡◌, ◌≤◌, length};
 ghost use Rattle.orb_cli.specs.Report.{status_of, kind_name, line_of, line_text, line_text_at};
 
 use crate::outcome::Outcome;
 use arrayvec::ArrayVec;
 use http_exchange::BadKind;
-use orb_bytes::decimal;
+use orb_bytes::{decimal, extend};
 
 impl Outcome {
     /// The program's status: 0 where all went well.
@@ -66,9 +66,9 @@ fn line(text: &[u8]) -> ArrayVec<u8, 96>
     ensures { result.items ≡ line_text text.now }
 {
     let mut line = ArrayVec::new();
-    append(&mut line, b"orb: ");
-    append(&mut line, text);
-    append(&mut line, b"\n");
+    extend(&mut line, b"orb: ");
+    extend(&mut line, text);
+    extend(&mut line, b"\n");
     line
 }
 
@@ -78,17 +78,10 @@ fn line_at(text: &[u8], place: u64) -> ArrayVec<u8, 96>
     ensures { result.items ≡ line_text_at text.now place }
 {
     let mut line = ArrayVec::new();
-    append(&mut line, b"orb: ");
-    append(&mut line, text);
-    append(&mut line, b" at ");
-    append(&mut line, decimal(place).as_slice());
-    append(&mut line, b"\n");
+    extend(&mut line, b"orb: ");
+    extend(&mut line, text);
+    extend(&mut line, b" at ");
+    extend(&mut line, decimal(place).as_slice());
+    extend(&mut line, b"\n");
     line
-}
-
-fn append(line: &mut ArrayVec<u8, 96>, text: &[u8])
-    requires { length line.old.items + length text.now ≤ 96 }
-    ensures { line.new.items ≡ line.old.items ++ text.now }
-{
-    let _ = line.try_extend_from_slice(text);
 }

@@ -1,5 +1,4 @@
 pub mod HeadLemmas
-pub mod NameLemmas
 pub mod WorkLemmas
 pub mod GatherLemmas
 pub mod CutLemmas

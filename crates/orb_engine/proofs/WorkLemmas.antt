@@ -28,7 +28,7 @@ use Rattle.response_rules.specs.Rules.{is_allowing, state_behind}
 use Rattle.response_rules.specs.Heads.{Head}
 use Rattle.response_rules.specs.Tables.{window_size}
 use Rattle.response_rules.specs.Settled.{is_in_text}
-use Rattle.orb_engine.proofs.NameLemmas.{name-short}
+use Rattle.response_rules.proofs.NameLemmas.{name-short}
 use Rattle.orb_engine.specs.Outputs.{state_name, verdict_name, line_of, line_by, written_front, written_whole}
 use Rattle.orb_engine.specs.Workers.{IsWorkerFor, WorkerReads, Works, Puts}
 

@@ -3,8 +3,8 @@ ghost use Rattle.std.specs.Prelude.{◌≡◌, Some};
 ghost use Rattle.orb_io.specs.Told.{Pushes, HasCause};
 ghost use Rattle.orb_io.specs.Memory.{told_size};
 
-use crate::appending::append;
 use crate::heads::front_of;
+use orb_bytes::append;
 use orb_io::{Failed, NoMemory, Sink};
 use std::alloc::Global;
 use std::marker::Model;

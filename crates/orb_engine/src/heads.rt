@@ -3,12 +3,12 @@ ghost use Rattle.std.specs.Prelude.{◌≡◌, ◌≤◌, ◌+◌, ◌++◌, ◌
 ghost use Rattle.http_exchange.specs.Head.{head_length};
 ghost use Rattle.orb_engine.specs.Gathering.{EndsBehind};
 
-use crate::appending::{append, extend};
 use crate::engine::Asked;
 use crate::settings::Settings;
 use arrayvec::ArrayVec;
 use header_values::{FieldSpan, Scratch};
 use http_exchange::{BadKind, BodyFrame, RequestHead, head_end, read_request, read_response};
+use orb_bytes::{append, extend};
 use orb_io::NoMemory;
 use response_rules::Decider;
 use std::alloc::Global;

@@ -15,7 +15,6 @@
 #![tactic(auto)]
 
 mod api;
-mod appending;
 mod bodies;
 mod boxes;
 mod closing;

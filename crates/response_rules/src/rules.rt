@@ -1,5 +1,5 @@
 //! The rules by name, in the order in which they are asked.
-ghost use Rattle.std.specs.Prelude.{◌≡◌};
+ghost use Rattle.std.specs.Prelude.{◌≡◌, ◌≤◌, length};
 ghost use Rattle.response_rules.specs.Rules.{name_of, is_allowing, is_media_rule};
 
 /// A rule of Opaque Response Blocking, by what holds where it decides: none before it does.
@@ -50,10 +50,11 @@ pub enum Rule {
 }
 
 impl Rule {
-    /// Its name, as it is written in reports.
+    /// Its name, as it is written in reports: at most 19 bytes.
     #[tactic(auto, unfolding(crate::specs::Rules::name_of))]
     pub fn name(&self) -> &'static [u8]
-        ensures { result.now ≡ name_of self.now }
+        ensures value { result.now ≡ name_of self.now }
+        ensures short { length result.now ≤ 19 }
     {
         match self {
             Rule::NotOpaque => b"not-opaque",
