@@ -1,4 +1,4 @@
-//! Bytes as HTTP and MIME read them: classes, ASCII case, trimming and decimal numbers.
+//! Bytes as HTTP and MIME read them: classes, ASCII case, trimming and decimal numbers; and appending them.
 //!
 //! `specs/` holds the definitions that every crate above cites: `Bytes` the classes, `Trim` what
 //! a text is without the ends, `Decimal` numbers, and `Fields` the fields of a head by their names.
