@@ -111,12 +111,26 @@ size_line : digits 16 false 1024 ≡ 52 ∷ 48 ∷ 48 ∷ []
 unfolding digits
 size_line = refl
 
-pub chunk-full : (front back : List ℕ) → length front + length back ≡ 1024
+chunk-full : (front back : List ℕ) → length front + length back ≡ 1024
     → (((52 ∷ 48 ∷ 48 ∷ 13 ∷ 10 ∷ []) ++ front) ++ back) ++ (13 ∷ 10 ∷ []) ≡ chunk (front ++ back)
 unfolding chunk
 chunk-full front back full =
     ap (λ d. d ++ (crlf ++ ((front ++ back) ++ crlf)))
     (sym (ap (digits 16 false) (length-append front back ∙ full) ∙ size_line))
+
+behind : (text line front back end : List ℕ)
+    → (((text ++ line) ++ front) ++ back) ++ end ≡ text ++ (((line ++ front) ++ back) ++ end)
+behind text line front back end = simp append_assoc
+
+pub chunk-behind : (text front back : List ℕ) → length front + length back ≡ 1024
+    → (((text ++ (52 ∷ 48 ∷ 48 ∷ 13 ∷ 10 ∷ [])) ++ front) ++ back) ++ (13 ∷ 10 ∷ []) ≡ text ++ chunk (front ++ back)
+chunk-behind text front back full =
+    behind text (52 ∷ 48 ∷ 48 ∷ 13 ∷ 10 ∷ []) front back (13 ∷ 10 ∷ []) ∙ ap (λ t. text ++ t) (chunk-full front back full)
+
+pub chunk-some : (bytes : List ℕ) → 0 < length (chunk bytes)
+unfolding chunk
+chunk-some bytes =
+    omega (arith, length-append (digits 16 false (length bytes)) (crlf ++ (bytes ++ crlf)))
 
 pub chunk-last : (rest : List ℕ)
     → ((digits 16 false (length rest) ++ (13 ∷ 10 ∷ [])) ++ rest) ++ (13 ∷ 10 ∷ 48 ∷ 13 ∷ 10 ∷ 13 ∷ 10 ∷ []) ≡ chunk rest ++ last_chunk
@@ -126,8 +140,3 @@ chunk-last rest = simp append_assoc
 pub rest_chunk-some : (rest : List ℕ) → 0 < length rest → rest_chunk rest ≡ chunk rest
 rest_chunk-some [] some = absurd (omega arith)
 rest_chunk-some (b ∷ rest) some = refl
-
--- the bytes of a text that is the chunk of two others
-pub chunk-of : (rest left front bytes text sent : List ℕ) (size : ℕ) → sent ≡ text → text ≡ chunk (front ++ bytes)
-    → front ≡ rest → bytes ≡ take size left → sent ≡ chunk (rest ++ take size left)
-chunk-of rest left front bytes text sent size a b c d = rw (a, b, c, d) refl

@@ -1,100 +1,136 @@
 -- A piece that is cut into chunks.
-use Rattle.std.proofs.Common.{◌≡◌, ℕ, ◌+◌, ◌<◌, List, [], ◌++◌, length, take, drop, Option, refl, sym, ap, ◌∙◌, subst, arith, append_assoc, length-append}
+use Rattle.std.proofs.Common.{◌≡◌, ℕ, ◌+◌, ◌<◌, List, [], ◌∷◌, ◌++◌, length, take, drop, Option, refl, sym, ap, ◌∙◌, subst, arith, append_assoc, length-append}
 use Rattle.std.proofs.lemmas.List.{append-nil, take-append-drop}
 use Rattle.orb_io.specs.Told.{Gains, GainsPrefix, IsPrefix}
 use Rattle.orb_io.proofs.ToldLemmas.{Gains-twice, GainsPrefix-behind, GainsPrefix-longer}
 use Rattle.body_filter.specs.Chunks.{chunk, full_chunks, count_full, rest_of}
+use Rattle.body_filter.specs.Writes.{Gathers}
 use Rattle.body_filter.proofs.ChunkLemmas.{chunks-on, rest-on, chunks-one, rest-none, chunks-short, rest-whole}
 
 -- the chunks that a body fills
 abbrev pub chunks_of : List ℕ → List ℕ
 chunks_of m = full_chunks (count_full m) m
 
--- what was read of a piece, what is left of it, and the chunks that went out
-pub record Cut (put put' : Option (List ℕ)) (size size' : Option ℕ) (kept piece left rest : List ℕ) : Type 0 where
-  pub done : List ℕ
-  pub is : piece ≡ done ++ left
-  pub fills : rest ≡ rest_of (kept ++ done)
-  pub gained : Gains put put' size size' (chunks_of (kept ++ done))
-
-pub cut-first : (put : Option (List ℕ)) (size : Option ℕ) (kept piece : List ℕ) → length kept < 1024
-    → Gains put put size size [] → Cut put put size size kept piece piece kept
-cut-first put size kept piece short none = record {
+-- nothing was read yet
+pub gathers-none : (kept piece : List ℕ) → length kept < 1024 → Gathers kept piece [] kept piece
+gathers-none kept piece short = record {
   done = [];
   is = refl;
-  fills = sym (ap rest_of (append-nil kept) ∙ rest-whole kept short);
-  gained = rw (append-nil kept, chunks-short kept short) none;
+  chunks = sym (ap chunks_of (append-nil kept) ∙ chunks-short kept short);
+  rest_is = sym (ap rest_of (append-nil kept) ∙ rest-whole kept short);
 }
 
--- one chunk more
-one_more : (m rest bytes : List ℕ) → rest ≡ rest_of m → length rest + length bytes ≡ 1024
-    → chunks_of (m ++ bytes) ≡ chunks_of m ++ chunk (rest ++ bytes)
-one_more m rest bytes is full =
-    chunks-on m bytes
-    ∙ ap (λ t. chunks_of m ++ t)
-    (ap (λ r. chunks_of (r ++ bytes)) (sym is) ∙ chunks-one (rest ++ bytes) (length-append rest bytes ∙ full))
-
-filled_up : (m rest bytes : List ℕ) → rest ≡ rest_of m → length rest + length bytes ≡ 1024 → rest_of (m ++ bytes) ≡ []
-filled_up m rest bytes is full =
-    rest-on m bytes
-    ∙ (ap (λ r. rest_of (r ++ bytes)) (sym is) ∙ rest-none (rest ++ bytes) (length-append rest bytes ∙ full))
-
-chunks-longer : (m p : List ℕ) → IsPrefix (chunks_of m) (chunks_of (m ++ p))
-chunks-longer m p = (chunks_of (rest_of m ++ p), chunks-on m p)
-
-pub cut-more : (a b c : Option (List ℕ)) (k m n : Option ℕ) (kept piece left rest : List ℕ) (size : ℕ)
-    → Cut a b k m kept piece left rest → length rest + length (take size left) ≡ 1024
-    → Gains b c m n (chunk (rest ++ take size left)) → Cut a c k n kept piece (drop size left) []
-cut-more a b c k m n kept piece left rest size cut full pushed =
-    let bytes = take size left in
-    let whole : kept ++ (cut.done ++ bytes) ≡ (kept ++ cut.done) ++ bytes = sym (append_assoc kept cut.done bytes) in
+-- one chunk was filled
+pub gathers-one : (kept left : List ℕ) (size : ℕ) → length kept + length (take size left) ≡ 1024
+    → Gathers kept left (chunk (kept ++ take size left)) [] (drop size left)
+gathers-one kept left size full =
+    let full' : length (kept ++ take size left) ≡ 1024 = length-append kept (take size left) ∙ full in
     record {
-      done = cut.done ++ bytes;
-      is = cut.is ∙ (ap (λ t. cut.done ++ t) (sym (take-append-drop size left)) ∙ sym (append_assoc cut.done bytes (drop size left)));
-      fills = sym (ap rest_of whole ∙ filled_up (kept ++ cut.done) rest bytes cut.fills full);
-      gained = let P : List ℕ → Type 0 = λ t. Gains a c k n t in
-          subst P (sym (ap chunks_of whole ∙ one_more (kept ++ cut.done) rest bytes cut.fills full))
-          (Gains-twice a b c k m n (chunks_of (kept ++ cut.done)) (chunk (rest ++ bytes)) cut.gained pushed);
+      done = take size left;
+      is = sym (take-append-drop size left);
+      chunks = sym (chunks-one (kept ++ take size left) full');
+      rest_is = sym (rest-none (kept ++ take size left) full');
+    }
+
+-- more was read, behind what was
+pub gathers-more : (kept piece text rest left more rest' left' : List ℕ)
+    → Gathers kept piece text rest left → Gathers rest left more rest' left'
+    → Gathers kept piece (text ++ more) rest' left'
+gathers-more kept piece text rest left more rest' left' first second =
+    let sent = kept ++ first.done in
+    let whole : kept ++ (first.done ++ second.done) ≡ sent ++ second.done = sym (append_assoc kept first.done second.done) in
+    record {
+      done = first.done ++ second.done;
+      is = first.is ∙ (ap (λ t. first.done ++ t) second.is ∙ sym (append_assoc first.done second.done left'));
+      chunks = ap (λ t. t ++ more) first.chunks
+          ∙ (ap (λ t. chunks_of sent ++ t) (second.chunks ∙ ap (λ r. chunks_of (r ++ second.done)) first.rest_is)
+          ∙ sym (ap chunks_of whole ∙ chunks-on sent second.done));
+      rest_is = second.rest_is ∙ (ap (λ r. rest_of (r ++ second.done)) first.rest_is
+          ∙ sym (ap rest_of whole ∙ rest-on sent second.done));
     }
 
 whole_piece : (kept done left piece : List ℕ) → piece ≡ done ++ left → kept ++ piece ≡ (kept ++ done) ++ left
 whole_piece kept done left piece is = ap (λ t. kept ++ t) is ∙ sym (append_assoc kept done left)
 
-pub cut-fault : (a b c : Option (List ℕ)) (k m n : Option ℕ) (kept piece left rest : List ℕ) (size : ℕ)
-    → Cut a b k m kept piece left rest → length rest + length (take size left) ≡ 1024
-    → GainsPrefix b c m n (chunk (rest ++ take size left)) → GainsPrefix a c k n (chunks_of (kept ++ piece))
-cut-fault a b c k m n kept piece left rest size cut full pushed =
-    let bytes = take size left in
-    let behind = drop size left in
-    let sent = kept ++ cut.done in
-    let whole : kept ++ piece ≡ (sent ++ bytes) ++ behind =
-    whole_piece kept cut.done left piece cut.is
-    ∙ (ap (λ t. sent ++ t) (sym (take-append-drop size left)) ∙ sym (append_assoc sent bytes behind)) in
-    let within : IsPrefix (chunks_of sent ++ chunk (rest ++ bytes)) (chunks_of (kept ++ piece)) =
-    rw (← one_more sent rest bytes cut.fills full, whole) (chunks-longer (sent ++ bytes) behind) in
-    GainsPrefix-longer a c k n (chunks_of sent ++ chunk (rest ++ bytes)) (chunks_of (kept ++ piece)) within
-    (GainsPrefix-behind a b c k m n (chunks_of sent) (chunk (rest ++ bytes)) cut.gained pushed)
+-- where there is a chunk, some of the piece was read
+some_done : (done kept text : List ℕ) → length kept < 1024 → text ≡ chunks_of (kept ++ done) → 0 < length text
+    → 0 < length done
+some_done [] kept text short is some =
+    let none : text ≡ [] = is ∙ (ap chunks_of (append-nil kept) ∙ chunks-short kept short) in
+    absurd (omega (arith, ap length none))
+some_done (b ∷ done) kept text short is some = omega arith
+
+pub gathers-shorter : (kept piece text rest left : List ℕ) → length kept < 1024
+    → Gathers kept piece text rest left → 0 < length text → length left < length piece
+gathers-shorter kept piece text rest left short gathers some =
+    omega (arith, ap length gathers.is, length-append gathers.done left, some_done gathers.done kept text short gathers.chunks some)
+
+-- the chunks are the first of the whole piece
+gathers-front : (kept piece text rest left : List ℕ) → Gathers kept piece text rest left → IsPrefix text (chunks_of (kept ++ piece))
+gathers-front kept piece text rest left gathers =
+    let sent = kept ++ gathers.done in (
+      chunks_of (rest_of sent ++ left),
+      ap chunks_of (whole_piece kept gathers.done left piece gathers.is)
+          ∙ (chunks-on sent left ∙ ap (λ t. t ++ chunks_of (rest_of sent ++ left)) (sym gathers.chunks)),
+    )
+
+-- all of them, where what is left fills no chunk
+gathers-chunks : (kept piece text rest left : List ℕ) → Gathers kept piece text rest left → length rest + length left < 1024
+    → text ≡ chunks_of (kept ++ piece)
+gathers-chunks kept piece text rest left gathers short =
+    let sent = kept ++ gathers.done in
+    let short' : length (rest ++ left) < 1024 = omega (arith, length-append rest left) in
+    gathers.chunks
+    ∙ sym (ap chunks_of (whole_piece kept gathers.done left piece gathers.is)
+    ∙ (chunks-on sent left
+    ∙ (ap (λ t. chunks_of sent ++ t) (ap (λ r. chunks_of (r ++ left)) (sym gathers.rest_is) ∙ chunks-short (rest ++ left) short')
+    ∙ append-nil (chunks_of sent))))
+
+gathers-rest : (kept piece text rest left : List ℕ) → Gathers kept piece text rest left → length rest + length left < 1024
+    → rest ++ left ≡ rest_of (kept ++ piece)
+gathers-rest kept piece text rest left gathers short =
+    let sent = kept ++ gathers.done in
+    let short' : length (rest ++ left) < 1024 = omega (arith, length-append rest left) in
+    sym (ap rest_of (whole_piece kept gathers.done left piece gathers.is)
+    ∙ (rest-on sent left
+    ∙ (ap (λ r. rest_of (r ++ left)) (sym gathers.rest_is) ∙ rest-whole (rest ++ left) short')))
+
+-- what was read of a piece, what is left of it, and the chunks that went out
+pub record Cut (put put' : Option (List ℕ)) (size size' : Option ℕ) (kept piece left rest : List ℕ) : Type 0 where
+  pub text : List ℕ
+  pub gathers : Gathers kept piece text rest left
+  pub gained : Gains put put' size size' text
+
+pub cut-first : (put : Option (List ℕ)) (size : Option ℕ) (kept piece : List ℕ) → length kept < 1024
+    → Gains put put size size [] → Cut put put size size kept piece piece kept
+cut-first put size kept piece short none = record { text = []; gathers = gathers-none kept piece short; gained = none }
+
+pub cut-more : (a b c : Option (List ℕ)) (k m n : Option ℕ) (kept piece left rest text left' rest' : List ℕ)
+    → Cut a b k m kept piece left rest → Gathers rest left text rest' left' → Gains b c m n text
+    → Cut a c k n kept piece left' rest'
+cut-more a b c k m n kept piece left rest text left' rest' cut gathers pushed = record {
+  text = cut.text ++ text;
+  gathers = gathers-more kept piece cut.text rest left text rest' left' cut.gathers gathers;
+  gained = Gains-twice a b c k m n cut.text text cut.gained pushed;
+}
+
+pub cut-fault : (a b c : Option (List ℕ)) (k m n : Option ℕ) (kept piece left rest text left' rest' : List ℕ)
+    → Cut a b k m kept piece left rest → Gathers rest left text rest' left' → GainsPrefix b c m n text
+    → GainsPrefix a c k n (chunks_of (kept ++ piece))
+cut-fault a b c k m n kept piece left rest text left' rest' cut gathers pushed =
+    GainsPrefix-longer a c k n (cut.text ++ text) (chunks_of (kept ++ piece))
+    (gathers-front kept piece (cut.text ++ text) rest' left'
+    (gathers-more kept piece cut.text rest left text rest' left' cut.gathers gathers))
+    (GainsPrefix-behind a b c k m n cut.text text cut.gained pushed)
 
 pub cut-last : (a b : Option (List ℕ)) (k m : Option ℕ) (kept piece left rest : List ℕ)
     → Cut a b k m kept piece left rest → length rest + length left < 1024
     → Gains a b k m (chunks_of (kept ++ piece))
 cut-last a b k m kept piece left rest cut short =
-    let sent = kept ++ cut.done in
-    let short' : length (rest ++ left) < 1024 = omega (arith, length-append rest left) in
     let P : List ℕ → Type 0 = λ t. Gains a b k m t in
-    subst P
-    (sym (ap chunks_of (whole_piece kept cut.done left piece cut.is)
-    ∙ (chunks-on sent left
-    ∙ (ap (λ t. chunks_of sent ++ t) (ap (λ r. chunks_of (r ++ left)) (sym cut.fills) ∙ chunks-short (rest ++ left) short')
-    ∙ append-nil (chunks_of sent)))))
-    cut.gained
+    subst P (gathers-chunks kept piece cut.text rest left cut.gathers short) cut.gained
 
 pub cut-rest : (a b : Option (List ℕ)) (k m : Option ℕ) (kept piece left rest : List ℕ)
     → Cut a b k m kept piece left rest → length rest + length left < 1024
     → rest ++ left ≡ rest_of (kept ++ piece)
-cut-rest a b k m kept piece left rest cut short =
-    let sent = kept ++ cut.done in
-    let short' : length (rest ++ left) < 1024 = omega (arith, length-append rest left) in
-    sym (ap rest_of (whole_piece kept cut.done left piece cut.is)
-    ∙ (rest-on sent left
-    ∙ (ap (λ r. rest_of (r ++ left)) (sym cut.fills) ∙ rest-whole (rest ++ left) short')))
+cut-rest a b k m kept piece left rest cut short = gathers-rest kept piece cut.text rest left cut.gathers short

@@ -1,5 +1,5 @@
 -- What goes out piece by piece of a body, where the bytes before it that fill no chunk were kept.
-use Rattle.std.specs.Prelude.{ℕ, Bool, List, [], ◌++◌, if◌then◌else◌}
+use Rattle.std.specs.Prelude.{◌≡◌, ℕ, Bool, List, [], ◌++◌, if◌then◌else◌}
 use Rattle.body_filter.specs.Chunks.{full_chunks, count_full, rest_of, rest_chunk, last_chunk}
 
 -- what goes out of a piece, behind the bytes that were kept
@@ -13,3 +13,11 @@ kept_behind chunked kept piece = if chunked then rest_of (kept ++ piece) else ke
 -- what goes out at the end of the body
 unfoldable pub end_of : (chunked : Bool) → (kept : List ℕ) → List ℕ
 end_of chunked kept = if chunked then rest_chunk kept ++ last_chunk else []
+
+-- some of a piece was read behind the bytes that were kept: the text is the chunks that they fill, the rest
+-- what of them fills none, and this much of the piece is left
+pub record Gathers (kept piece text rest left : List ℕ) : Type 0 where
+  pub done : List ℕ
+  pub is : piece ≡ done ++ left
+  pub chunks : text ≡ full_chunks (count_full (kept ++ done)) (kept ++ done)
+  pub rest_is : rest ≡ rest_of (kept ++ done)

@@ -1,8 +1,8 @@
 //! A body on its way out, as it was framed when it came.
-ghost use Rattle.std.specs.Prelude.{◌≡◌, ◌<◌, ◌+◌, ◌++◌, [], length, OnOk};
+ghost use Rattle.std.specs.Prelude.{◌≡◌, ◌<◌, ◌≤◌, ◌+◌, ◌++◌, [], length, OnOk};
 ghost use Rattle.orb_io.specs.Told.{Pushes, HasCause};
 ghost use Rattle.body_filter.specs.Chunks.{chunk, full_chunks, count_full, rest_of, rest_chunk, last_chunk};
-ghost use Rattle.body_filter.specs.Writes.{put_of, kept_behind, end_of};
+ghost use Rattle.body_filter.specs.Writes.{put_of, kept_behind, end_of, Gathers};
 
 use crate::hexadecimal::hexadecimal;
 use crate::pushing::{WriteFault, put_bytes};
@@ -13,8 +13,11 @@ use orb_io::Sink;
 /// How many bytes a chunk has, but for the one of the rest.
 const CHUNK: usize = 1024;
 
-/// A chunk with its size line and its end, and the last chunk.
-const CHUNK_ROOM: usize = CHUNK + 12;
+/// A full chunk with its size line and its end.
+const FULL_CHUNK: usize = CHUNK + 7;
+
+/// How many bytes go out by one push at most, where they go out in chunks.
+const BATCH: usize = 8 * FULL_CHUNK;
 
 /// Puts a body into a sink, piece by piece.
 #[derive(Drop)]
@@ -22,7 +25,10 @@ pub(crate) struct BodyWriter {
     chunked: bool,
     // The bytes that fill no chunk yet.
     rest: ArrayVec<u8, CHUNK>,
+    // Chunks on their way out, empty between calls.
+    text: ArrayVec<u8, BATCH>,
     ghost short: { length rest.items < 1024 },
+    ghost idle: { text.items ≡ [] },
 }
 
 impl BodyWriter {
@@ -32,6 +38,7 @@ impl BodyWriter {
         BodyWriter {
             chunked: false,
             rest: ArrayVec::new(),
+            text: ArrayVec::new(),
         }
     }
 
@@ -63,21 +70,23 @@ impl BodyWriter {
         ensures keeps { O.kept sink.old sink.new }
     {
         if self.chunked {
-            put_chunks(&mut self.rest, piece, sink)
+            put_chunks(&mut self.rest, &mut self.text, piece, sink)
         } else {
             put_bytes(piece, sink)
         }
     }
 
     /// Puts the end of the body: nothing, or a chunk of the rest and the last chunk.
-    pub(crate) fn finish<O: Sink>(&self, sink: &mut O) -> Result<(), WriteFault>
+    pub(crate) fn finish<O: Sink>(&mut self, sink: &mut O) -> Result<(), WriteFault>
         ensures bytes { Pushes (O.put sink.old) (O.put sink.new) (O.size sink.old) (O.size sink.new)
-            result (end_of self.now.chunked self.now.rest.items) }
+            result (end_of self.old.chunked self.old.rest.items) }
+        ensures rest { self.new.rest.items ≡ self.old.rest.items }
+        ensures chunked { self.new.chunked ≡ self.old.chunked }
         ensures cause { HasCause (O.faults sink.old) (O.faults sink.new) result }
         ensures keeps { O.kept sink.old sink.new }
     {
         if self.chunked {
-            put_end(self.rest.as_slice(), sink)
+            put_end(self.rest.as_slice(), &mut self.text, sink)
         } else {
             Ok(())
         }
@@ -129,65 +138,107 @@ pub(crate) fn put_whole<O: Sink>(
 /// Puts each chunk that the piece fills behind the rest, and keeps what fills none.
 fn put_chunks<O: Sink>(
     rest: &mut ArrayVec<u8, CHUNK>,
+    text: &mut ArrayVec<u8, BATCH>,
     piece: &[u8],
     sink: &mut O,
 ) -> Result<(), WriteFault>
-    requires { length rest.old.items < 1024 }
+    requires short { length rest.old.items < 1024 }
+    requires idle { text.old.items ≡ [] }
     ensures bytes { Pushes (O.put sink.old) (O.put sink.new) (O.size sink.old) (O.size sink.new)
         result (full_chunks (count_full (rest.old.items ++ piece.now)) (rest.old.items ++ piece.now)) }
     ensures rest { OnOk result (rest.new.items ≡ rest_of (rest.old.items ++ piece.now)) }
     ensures short { length rest.new.items < 1024 }
+    ensures idle { text.new.items ≡ [] }
     ensures cause { HasCause (O.faults sink.old) (O.faults sink.new) result }
     ensures keeps { O.kept sink.old sink.new }
 {
     let mut left = piece;
-    'chunks: while CHUNK - rest.len() <= left.len() {
-        let (bytes, behind) = left.split_at(CHUNK - rest.len());
-        put_bytes(full_chunk(rest.as_slice(), bytes).as_slice(), sink)?;
-        rest.clear();
-        left = behind;
+    'batches: while CHUNK - rest.len() <= left.len() {
+        left = gather_chunks(rest, text, left);
+        put_text(text, sink)?;
     }
     extend(rest, left);
     Ok(())
 }
 
-/// The chunk of these bytes and those behind them.
-fn full_chunk(front: &[u8], back: &[u8]) -> ArrayVec<u8, CHUNK_ROOM>
-    requires { length front.now + length back.now ≡ 1024 }
-    ensures { result.items ≡ chunk (front.now ++ back.now) }
+/// Fills the text with chunks of the rest and the piece behind it, as many as it has room for. It gives
+/// what is left of the piece.
+fn gather_chunks<'p>(
+    rest: &mut ArrayVec<u8, CHUNK>,
+    text: &mut ArrayVec<u8, BATCH>,
+    piece: &'p [u8],
+) -> &'p [u8]
+    requires { length rest.old.items < 1024 }
+    ensures gathers { Gathers rest.old.items piece.now text.new.items rest.new.items result.now }
+    ensures some { 1024 ≤ length rest.old.items + length piece.now → 0 < length text.new.items }
+    ensures short { length rest.new.items < 1024 }
 {
-    let mut text = ArrayVec::new();
-    extend(&mut text, b"400\r\n");
-    extend(&mut text, front);
-    extend(&mut text, back);
-    extend(&mut text, b"\r\n");
-    text
+    text.clear();
+    let mut left = piece;
+    'chunks: while CHUNK - rest.len() <= left.len() && FULL_CHUNK <= text.remaining_capacity() {
+        let (bytes, behind) = left.split_at(CHUNK - rest.len());
+        append_chunk(text, rest.as_slice(), bytes);
+        rest.clear();
+        left = behind;
+    }
+    left
+}
+
+/// Appends the full chunk of these bytes and those behind them, for which there is room.
+fn append_chunk(text: &mut ArrayVec<u8, BATCH>, front: &[u8], back: &[u8])
+    requires full { length front.now + length back.now ≡ 1024 }
+    requires room { length text.old.items + 1031 ≤ 8248 }
+    ensures { text.new.items ≡ text.old.items ++ chunk (front.now ++ back.now) }
+{
+    extend(text, b"400\r\n");
+    extend(text, front);
+    extend(text, back);
+    extend(text, b"\r\n");
 }
 
 /// Puts a chunk of the rest, where there is a rest, and the last chunk, by one push.
-fn put_end<O: Sink>(rest: &[u8], sink: &mut O) -> Result<(), WriteFault>
-    requires { length rest.now < 1024 }
+fn put_end<O: Sink>(
+    rest: &[u8],
+    text: &mut ArrayVec<u8, BATCH>,
+    sink: &mut O,
+) -> Result<(), WriteFault>
+    requires short { length rest.now < 1024 }
+    requires idle { text.old.items ≡ [] }
     ensures bytes { Pushes (O.put sink.old) (O.put sink.new) (O.size sink.old) (O.size sink.new)
         result (rest_chunk rest.now ++ last_chunk) }
+    ensures idle { text.new.items ≡ [] }
     ensures cause { HasCause (O.faults sink.old) (O.faults sink.new) result }
     ensures keeps { O.kept sink.old sink.new }
 {
     if rest.is_empty() {
         put_bytes(b"0\r\n\r\n", sink)
     } else {
-        put_bytes(last_chunks(rest).as_slice(), sink)
+        gather_last_chunks(rest, text);
+        put_text(text, sink)
     }
 }
 
-/// The chunk of a rest and the last chunk.
-fn last_chunks(rest: &[u8]) -> ArrayVec<u8, CHUNK_ROOM>
+/// Fills the text with the chunk of a rest and the last chunk.
+fn gather_last_chunks(rest: &[u8], text: &mut ArrayVec<u8, BATCH>)
     requires { length rest.now < 1024 }
-    ensures { result.items ≡ chunk rest.now ++ last_chunk }
+    ensures { text.new.items ≡ chunk rest.now ++ last_chunk }
 {
-    let mut text = ArrayVec::new();
-    extend(&mut text, hexadecimal(rest.len()).as_slice());
-    extend(&mut text, b"\r\n");
-    extend(&mut text, rest);
-    extend(&mut text, b"\r\n0\r\n\r\n");
-    text
+    text.clear();
+    extend(text, hexadecimal(rest.len()).as_slice());
+    extend(text, b"\r\n");
+    extend(text, rest);
+    extend(text, b"\r\n0\r\n\r\n");
+}
+
+/// Puts the text by one push, and empties it.
+fn put_text<O: Sink>(text: &mut ArrayVec<u8, BATCH>, sink: &mut O) -> Result<(), WriteFault>
+    ensures bytes { Pushes (O.put sink.old) (O.put sink.new) (O.size sink.old) (O.size sink.new)
+        result text.old.items }
+    ensures idle { text.new.items ≡ [] }
+    ensures cause { HasCause (O.faults sink.old) (O.faults sink.new) result }
+    ensures keeps { O.kept sink.old sink.new }
+{
+    let put = put_bytes(text.as_slice(), sink);
+    text.clear();
+    put
 }

@@ -1,15 +1,16 @@
-use Rattle.std.proofs.Common.{◌≡◌, ◌<◌, length}
+use Rattle.std.proofs.Common.{◌≡◌, ◌<◌, [], length}
 use Rattle.body_filter.proofs.CutLemmas.{Cut}
 use Rattle.body_filter.proofs.writing.put_chunks.Given as goal
 
-abbrev pub invariant-chunks : goal.invariant-chunks
-invariant-chunks g l = record {
+abbrev pub invariant-batches : goal.invariant-batches
+invariant-batches g l = record {
   short : length l.rest.items < 1024;
+  idle : l.text.items ≡ [];
   cut : Cut (g.O.Sink.put l.initial.sink) (g.O.Sink.put l.sink) (g.O.Sink.size l.initial.sink) (g.O.Sink.size l.sink)
       l.initial.rest.items l.piece l.left l.rest.items;
   calm : g.O.Sink.faults l.sink ≡ g.O.Sink.faults l.initial.sink;
   kept : g.O.Sink.kept l.initial.sink l.sink;
 }
 
-abbrev pub decreases-chunks : goal.decreases-chunks
-decreases-chunks g l = length l.left
+abbrev pub decreases-batches : goal.decreases-batches
+decreases-batches g l = length l.left

@@ -1,5 +1,5 @@
 use Rattle.body_filter.proofs.ChunkLemmas.{chunk-last}
-use Rattle.body_filter.proofs.writing.last_chunks.Goals as goal
+use Rattle.body_filter.proofs.writing.gather_last_chunks.Goals as goal
 
 pub returns : goal.returns
 returns c =
@@ -8,7 +8,7 @@ returns c =
       c.extend-3.ensures,
       c.extend-2.ensures,
       c.extend.ensures,
-      c.new-text.ensures,
+      c.clear.ensures,
       c.as_slice.ensures.value,
       c.hexadecimal.ensures,
     )

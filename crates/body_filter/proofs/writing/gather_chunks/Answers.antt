@@ -1,0 +1,34 @@
+use Rattle.std.proofs.Common.{◌≡◌, ◌+◌, ◌-◌, ◌++◌, length, take, refl, ap, arith, length-append}
+use Rattle.body_filter.specs.Chunks.{chunk}
+use Rattle.body_filter.proofs.ChunkLemmas.{chunk-some}
+use Rattle.body_filter.proofs.CutLemmas.{gathers-none, gathers-one, gathers-more}
+use Rattle.body_filter.proofs.writing.gather_chunks.Goals as goal
+
+pub chunks-init : goal.chunks-init
+chunks-init c = record {
+  short = c.requires;
+  gathers = rw c.clear.ensures (gathers-none c.args.rest.now.items c.args.piece.now c.requires);
+  some = λ fills none. fills;
+}
+
+pub chunks-preserved : goal.chunks-preserved
+chunks-preserved c =
+    let text = c.chunks.text.items in
+    let rest = c.chunks.rest.items in
+    let left = c.chunks.left.now in
+    let size = 1024 - c.len-in-chunks.result in
+    let full : length rest + length (take size left) ≡ 1024 =
+    omega (arith, ap length c.split_at.ensures.front, c.split_at.ensures.front_len, c.len-in-chunks.ensures.value) in
+    let longer : c.append_chunk.new.text.items ≡ text ++ chunk (rest ++ take size left) =
+    rw (c.append_chunk.ensures, c.as_slice.ensures.value, c.split_at.ensures.front) refl in
+    record {
+      short = rw c.clear-in-chunks.ensures (omega arith);
+      gathers = rw (c.clear-in-chunks.ensures, longer, c.split_at.ensures.back)
+          (gathers-more _ _ text rest left _ _ _ c.chunks.invariant.gathers (gathers-one rest left size full));
+      some = λ fills none. absurd (omega (
+        arith,
+        ap length longer,
+        length-append text (chunk (rest ++ take size left)),
+        chunk-some (rest ++ take size left),
+      ));
+    }

@@ -1,0 +1,14 @@
+use Rattle.std.proofs.Common.{◌≡◌, ◌+◌, ◌<◌, ◌≤◌, length}
+use Rattle.body_filter.specs.Writes.{Gathers}
+use Rattle.body_filter.proofs.writing.gather_chunks.Given as goal
+
+abbrev pub invariant-chunks : goal.invariant-chunks
+invariant-chunks l = record {
+  short : length l.rest.items < 1024;
+  gathers : Gathers l.initial.rest.items l.piece l.text.items l.rest.items l.left;
+  some : 1024 ≤ length l.initial.rest.items + length l.piece → length l.text.items ≡ 0
+      → 1024 ≤ length l.rest.items + length l.left;
+}
+
+abbrev pub decreases-chunks : goal.decreases-chunks
+decreases-chunks l = length l.left
