@@ -299,6 +299,22 @@ fn held_bytes_are_counted(rt: HostRuntime) -> Result<(), Fail> {
 }
 
 #[test]
+fn chunks_go_out_eight_by_a_push(rt: HostRuntime) -> Result<(), Fail> {
+    let alloc = rt.alloc();
+    let body = text(alloc, b"", 9217, b"")?;
+    // the push that fails, and how much went out before it: the head, eight chunks, one more
+    for (fails, put) in [(0, 0), (1, 19), (2, 8267), (3, 9298)] {
+        let mut filter = Filter::open(alloc, LIMIT)?;
+        let mut sink = MemorySink::open(alloc, 16384, [fails].to_vec(alloc)?)?;
+        let decider = decider(alloc, &made_with(BARE, false, true))?;
+        let verdict = pass(&mut filter, decider, true, &body, 9217, &mut sink);
+        assert_eq!(rt; verdict, Err(WriteFault));
+        assert_eq!(rt; sink.bytes().len(), put);
+    }
+    Ok(())
+}
+
+#[test]
 fn a_fault_leaves_a_front_and_a_filter_that_begins_anew(rt: HostRuntime) -> Result<(), Fail> {
     let alloc = rt.alloc();
     // the push that fails, the room of the sink, and what it got
