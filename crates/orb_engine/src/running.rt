@@ -75,7 +75,7 @@ impl Engine {
             → TurnCauses result before after (O.faults output.old) (O.faults output.new) }
         ensures keeps { O.kept output.old output.new }
         ensures settings { settings_of self.new ≡ settings_of self.old }
-        ensures within { (o : EngineOutcome) → result ≡ Some o → (o ≡ EngineOutcome.Endless → ⊥)
+        ensures total { (o : EngineOutcome) → result ≡ Some o → (o ≡ EngineOutcome.Endless → ⊥)
             → taken_by self.old + length (piece_of pulled room.now) ≤ 2 ^ 62 }
         ensures more { result ≡ None → taken_by self.old < taken_by self.new }
         ensures fits { result ≡ None → taken_by self.new ≤ 2 ^ 62 }

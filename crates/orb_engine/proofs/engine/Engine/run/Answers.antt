@@ -8,7 +8,7 @@ returns-in-Some-clause-ran g c =
     let w = c.pulls.invariant.runs in
     run-ends c.turn.result c.in-Some.outcome c.pull_some-pulled.result c.pulls.self c.turn.new.self (settings_of c.args.self.now)
     _ _ _ _ _ _ _ _ _ c.pull_some-pulled.new.room c.in-Some.is (omega (arith, c.pulls.invariant.room)) w c.pull_some-pulled.ensures.bytes
-    (c.turn.ensures.within c.in-Some.outcome c.in-Some.is)
+    (c.turn.ensures.total c.in-Some.outcome c.in-Some.is)
     (c.turn.ensures.answers (settings_of c.args.self.now) w.read w.goes.given _ _ w.goes.reads w.goes.gained)
 
 pub pulls-preserved : goal.pulls-preserved

@@ -14,7 +14,7 @@ returns-in-Some-clause-ran g c =
     (g.met.K.Duplex.push_leaves_left _ _ c.turn.ensures.keeps)
     (run-ends c.turn.result c.in-Some.outcome pull.result c.pulls.self c.turn.new.self s
     _ _ _ _ _ _ _ _ _ pull.new.room c.in-Some.is (omega (arith, c.pulls.invariant.room)) w pull.ensures.bytes
-    (c.turn.ensures.within c.in-Some.outcome c.in-Some.is)
+    (c.turn.ensures.total c.in-Some.outcome c.in-Some.is)
     (c.turn.ensures.answers s w.read w.goes.given _ _ w.goes.reads w.goes.gained))
 
 pub returns-in-Some-clause-causes : goal.returns-in-Some-clause-causes
