@@ -7,12 +7,11 @@ use Rattle.media_state.specs.Table.{States}
 use Rattle.orb_engine.specs.declared.settings.Settings.{Settings}
 use Rattle.orb_engine.specs.declared.engine.Engine.{Engine}
 use Rattle.orb_engine.specs.declared.outcome.EngineOutcome.{EngineOutcome}
-use Rattle.orb_engine.specs.declared.outcome.EngineOutcome.TheVariants.{Done, Bad, Cut, HeadLimit, MediaFull, NotBuilt, Endless, ReadFault, WriteFault}
+use Rattle.orb_engine.specs.declared.outcome.EngineOutcome.TheVariants.{Done, Endless, ReadFault, WriteFault}
 use Rattle.orb_engine.specs.Recording as cut
 use Rattle.orb_engine.specs.Recording.{Tail, Recording, IsRecording, table_behind, spell_items}
 use Rattle.orb_engine.specs.Ends as ends
 use Rattle.orb_engine.specs.Ends.{End, stop_at, stop_of}
-use Rattle.orb_engine.specs.Outputs.{output_of}
 use Rattle.orb_engine.specs.Reads.{IsStop}
 use Rattle.orb_engine.specs.Runs.{run_limit, Ends, Ran, RunCauses}
 use Rattle.orb_engine.specs.Complete.{IsWholeRecording, IsAll, IsComplete}

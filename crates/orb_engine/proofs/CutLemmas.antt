@@ -9,10 +9,10 @@ use Rattle.response_rules.specs.Rules.{is_allowing}
 use Rattle.orb_engine.specs.declared.settings.Settings.{Settings}
 use Rattle.orb_engine.specs.declared.counts.Counts.{Counts}
 use Rattle.orb_engine.specs.Heads.{exchange_of}
-use Rattle.orb_engine.specs.Recording.{Item, Tail, IsItem, AreItems, IsTail, IsRecording, is_open, spell_item, spell_items, spell_tail, table_after, table_behind}
+use Rattle.orb_engine.specs.Recording.{Item, IsItem, AreItems, spell_item, spell_items, table_after, table_behind}
 use Rattle.orb_engine.specs.Outputs.{written_items, written_whole}
 use Rattle.orb_engine.specs.Counts.{rules_of_items, count_allowed, count_blocked}
-use Rattle.orb_engine.specs.Reads.{open_cut, table_of, counts_of, count_with}
+use Rattle.orb_engine.specs.Reads.{counts_of, count_with}
 use Rattle.http_exchange.proofs.EndLemmas.{head_length-bounds}
 
 pair : (a b c d : ℕ) → a ≡ c → b ≡ d → ◌≡◌ {A = Counts} (record { allowed = a; blocked = b }) (record { allowed = c; blocked = d })

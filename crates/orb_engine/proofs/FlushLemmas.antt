@@ -22,7 +22,7 @@ use Rattle.orb_engine.specs.Recording.{Item, Tail, Recording, is_open}
 use Rattle.orb_engine.specs.Outputs.{output_of, written_items}
 use Rattle.orb_engine.specs.Counts.{rules_of, rules_of_items, rules_of_tail}
 use Rattle.orb_engine.specs.Writing.{Passes, Breaks as WriterBreaks, IsSameBut, IsWriterFor, box_of}
-use Rattle.orb_engine.specs.Reads.{open_cut, table_of, counts_of, IsTold, Stands, IsStop, Stops, Breaks, Goes, Halts}
+use Rattle.orb_engine.specs.Reads.{open_cut, table_of, counts_of, IsTold, Stands, IsStop, Stops, Goes}
 use Rattle.orb_engine.specs.Runs.{HasCounted, HasCountedFront, Ends, Continues, Fails, EndsAs}
 use Rattle.orb_engine.proofs.GatherLemmas.{flushed}
 use Rattle.orb_engine.proofs.AnswerLaws.{opens-stop}
