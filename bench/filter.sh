@@ -2,8 +2,8 @@
 # How many megabytes of input a second of processor time `orb filter` and `orb explain` take, and how much
 # memory, on recordings of 100 MB, beside `cat` and `dd bs=8192` on the same file.
 #
-# It makes the recordings in a scratch folder, one at a time, and prints a table. Each speed is the best of three
-# runs, with all output to /dev/null. Nothing here is part of the gate.
+# It makes the recordings in a scratch folder, one at a time, and prints a table. Each speed is the best of nine
+# runs, in rounds that take each program in turn, with all output to /dev/null. Nothing here is part of the gate.
 set -e
 top=$(cd "$(dirname "$0")/.." && pwd)
 "$top/orb" mime a/b >/dev/null # builds the program where that is needed
@@ -19,6 +19,7 @@ import time
 
 program, recording = sys.argv[1:]
 TOTAL = 100_000_000
+ROUNDS = 9
 OPAQUE = b"GET / HTTP/1.1\r\nSec-Fetch-Mode: no-cors\r\n\r\n"
 CONSENT = b"GET / HTTP/1.1\r\nSec-Fetch-Mode: cors\r\nSec-Fetch-Site: cross-site\r\n\r\n"
 PNG = b"\x89PNG\r\n\x1a\n"
@@ -56,18 +57,15 @@ KINDS = {
 
 
 def seconds(words):
-    """Of processor time, in the best of three runs."""
-    times = []
-    for _ in range(3):
-        with open(recording, "rb") as source:
-            child = subprocess.Popen(
-                words, stdin=source, stdout=subprocess.DEVNULL, stderr=subprocess.DEVNULL
-            )
-        _, status, used = os.wait4(child.pid, 0)
-        if status != 0:
-            sys.exit("%s: status %d" % (words[0], status))
-        times.append(used.ru_utime + used.ru_stime)
-    return max(min(times), 1e-3)
+    """Of processor time, in one run."""
+    with open(recording, "rb") as source:
+        child = subprocess.Popen(
+            words, stdin=source, stdout=subprocess.DEVNULL, stderr=subprocess.DEVNULL
+        )
+    _, status, used = os.wait4(child.pid, 0)
+    if status != 0:
+        sys.exit("%s: status %d" % (words[0], status))
+    return max(used.ru_utime + used.ru_stime, 1e-3)
 
 
 def kilobytes(words):
@@ -94,7 +92,8 @@ for name, exchanges in KINDS.items():
                 size += out.write(exchange)
                 count += 1
     words = [[program, "filter"], [program, "explain"], ["dd", "bs=8192", "status=none"], ["cat"]]
-    times = [seconds(each) for each in words]
+    rounds = [[seconds(each) for each in words] for _ in range(ROUNDS)]
+    times = [min(runs) for runs in zip(*rounds)]
     row = ["%.0f" % (size / 1e6 / each) for each in times]
     row += ["%.0f" % (count / times[0]), kilobytes(words[0]), kilobytes(words[1])]
     print("| %s | %s |" % (name, " | ".join(row)))
