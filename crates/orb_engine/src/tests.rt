@@ -351,7 +351,7 @@ fn chunks_of_one_byte_go_out_in_chunks_of_1024(rt: HostRuntime) -> Result<(), Fa
             b"\r\n1\r\n\0\r\n0\r\n\r\n",
         ],
     )?;
-    for piece in [1, 100] {
+    for piece in [1, 7, 100, 4_194_304] {
         assert!(rt; 1 <= piece);
         let recording = in_chunks_of_one(alloc, &body)?;
         let (outcome, link) = run_watched(alloc, Job::Filter, recording, piece, OWED)?;
