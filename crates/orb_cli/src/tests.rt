@@ -254,12 +254,12 @@ const WORKED: &[Row] = &[
          400\r\n\xFF\xD8\xFF{0-1020:\0}\r\n400\r\n{0-1023:\0}\r\n1\r\n\0\r\n0\r\n\r\n",
     ),
     (
-        "chunks with extensions",
+        "chunks with extensions, and a trailer",
         Filter,
         Calm,
         b"GET / HTTP/1.1\r\nSec-Fetch-Mode: no-cors\r\n\r\n\
          HTTP/1.1 200 OK\r\nContent-Type: image/jpeg\r\nTransfer-Encoding: chunked\r\n\r\n\
-         1;x=\r\n\xFF\r\n1;x=\r\n\xD8\r\n1;x=\r\n\xFF\r\n{0-2045:1;x=\r\n\0\r\n}0\r\n\r\n",
+         1;x=\r\n\xFF\r\n1;x=\r\n\xD8\r\n1;x=\r\n\xFF\r\n{0-2045:1;x=\r\n\0\r\n}0\r\nA: b\r\n\r\n",
         Done,
         b"HTTP/1.1 200 OK\r\nContent-Type: image/jpeg\r\nTransfer-Encoding: chunked\r\n\r\n\
          400\r\n\xFF\xD8\xFF{0-1020:\0}\r\n400\r\n{0-1023:\0}\r\n1\r\n\0\r\n0\r\n\r\n",
