@@ -136,7 +136,3 @@ pub chunk-last : (rest : List ℕ)
     → ((digits 16 false (length rest) ++ (13 ∷ 10 ∷ [])) ++ rest) ++ (13 ∷ 10 ∷ 48 ∷ 13 ∷ 10 ∷ 13 ∷ 10 ∷ []) ≡ chunk rest ++ last_chunk
 unfolding chunk
 chunk-last rest = simp append_assoc
-
-pub rest_chunk-some : (rest : List ℕ) → 0 < length rest → rest_chunk rest ≡ chunk rest
-rest_chunk-some [] some = absurd (omega arith)
-rest_chunk-some (b ∷ rest) some = refl

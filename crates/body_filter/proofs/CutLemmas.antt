@@ -1,8 +1,9 @@
 -- A piece that is cut into chunks.
-use Rattle.std.proofs.Common.{◌≡◌, ℕ, ◌+◌, ◌<◌, List, [], ◌∷◌, ◌++◌, length, take, drop, Option, refl, sym, ap, ◌∙◌, subst, arith, append_assoc, length-append}
+use Rattle.std.proofs.Common.{◌≡◌, ℕ, ◌+◌, ◌<◌, List, [], ◌∷◌, ◌++◌, length, take, drop, refl, sym, ap, ◌∙◌, subst, arith, append_assoc, length-append}
 use Rattle.std.proofs.lemmas.List.{append-nil, take-append-drop}
-use Rattle.orb_io.specs.Told.{Gains, GainsPrefix, IsPrefix}
-use Rattle.orb_io.proofs.ToldLemmas.{Gains-twice, GainsPrefix-behind, GainsPrefix-longer}
+use Rattle.orb_io.specs.Told.{Told, Agrees, Gains, GainsPrefix, Gives, IsPrefix}
+use Rattle.orb_io.proofs.ToldLemmas.{GainsPrefix-after, GainsPrefix-longer}
+use Rattle.orb_io.proofs.GivesLemmas.{Gives-none, Gives-of, Gives-then}
 use Rattle.body_filter.specs.Chunks.{chunk, full_chunks, count_full, rest_of}
 use Rattle.body_filter.specs.Writes.{Gathers}
 use Rattle.body_filter.proofs.ChunkLemmas.{chunks-on, rest-on, chunks-one, rest-none, chunks-short, rest-whole}
@@ -95,42 +96,35 @@ gathers-rest kept piece text rest left gathers short =
     ∙ (rest-on sent left
     ∙ (ap (λ r. rest_of (r ++ left)) (sym gathers.rest_is) ∙ rest-whole (rest ++ left) short')))
 
--- what was read of a piece, what is left of it, and the chunks that went out
-pub record Cut (put put' : Option (List ℕ)) (size size' : Option ℕ) (kept piece left rest : List ℕ) : Type 0 where
-  pub text : List ℕ
-  pub gathers : Gathers kept piece text rest left
-  pub gained : Gains put put' size size' text
+-- what went out of a piece that is read on, where the chunks that the sink was given are those of what was read
+abbrev pub Cut : Told → Told → (kept piece left rest : List ℕ) → Type 0
+Cut old new kept piece left rest = Gives old new [] (λ text. Gathers kept piece text rest left)
 
-pub cut-first : (put : Option (List ℕ)) (size : Option ℕ) (kept piece : List ℕ) → length kept < 1024
-    → Gains put put size size [] → Cut put put size size kept piece piece kept
-cut-first put size kept piece short none = record { text = []; gathers = gathers-none kept piece short; gained = none }
+pub cut-first : (told : Told) (kept piece : List ℕ) → length kept < 1024 → Agrees told → Cut told told kept piece piece kept
+cut-first told kept piece short agrees =
+    Gives-none told [] (λ text. Gathers kept piece text kept piece) agrees (gathers-none kept piece short)
 
-pub cut-more : (a b c : Option (List ℕ)) (k m n : Option ℕ) (kept piece left rest text left' rest' : List ℕ)
-    → Cut a b k m kept piece left rest → Gathers rest left text rest' left' → Gains b c m n text
-    → Cut a c k n kept piece left' rest'
-cut-more a b c k m n kept piece left rest text left' rest' cut gathers pushed = record {
-  text = cut.text ++ text;
-  gathers = gathers-more kept piece cut.text rest left text rest' left' cut.gathers gathers;
-  gained = Gains-twice a b c k m n cut.text text cut.gained pushed;
-}
+pub cut-more : (a b c : Told) (kept piece left rest text left' rest' : List ℕ) → Cut a b kept piece left rest
+    → Gathers rest left text rest' left' → Gains b c text → Cut a c kept piece left' rest'
+cut-more a b c kept piece left rest text left' rest' cut gathers pushed =
+    Gives-then a b c [] (λ all. Gathers kept piece all rest left) (λ all. Gathers kept piece all rest' left') cut
+    (λ more done. Gives-of b c more text (λ all. Gathers kept piece all rest' left') pushed
+    (gathers-more kept piece more rest left text rest' left' done gathers))
 
-pub cut-fault : (a b c : Option (List ℕ)) (k m n : Option ℕ) (kept piece left rest text left' rest' : List ℕ)
-    → Cut a b k m kept piece left rest → Gathers rest left text rest' left' → GainsPrefix b c m n text
-    → GainsPrefix a c k n (chunks_of (kept ++ piece))
-cut-fault a b c k m n kept piece left rest text left' rest' cut gathers pushed =
-    GainsPrefix-longer a c k n (cut.text ++ text) (chunks_of (kept ++ piece))
-    (gathers-front kept piece (cut.text ++ text) rest' left'
-    (gathers-more kept piece cut.text rest left text rest' left' cut.gathers gathers))
-    (GainsPrefix-behind a b c k m n cut.text text cut.gained pushed)
+pub cut-fault : (a b c : Told) (kept piece left rest text left' rest' : List ℕ) → Cut a b kept piece left rest
+    → Gathers rest left text rest' left' → GainsPrefix b c text → GainsPrefix a c (chunks_of (kept ++ piece))
+cut-fault a b c kept piece left rest text left' rest' cut gathers pushed =
+    GainsPrefix-longer a c (cut.more ++ text) (chunks_of (kept ++ piece))
+    (gathers-front kept piece (cut.more ++ text) rest' left'
+    (gathers-more kept piece cut.more rest left text rest' left' cut.holds gathers))
+    (GainsPrefix-after a b c cut.more text cut.gained pushed)
 
-pub cut-last : (a b : Option (List ℕ)) (k m : Option ℕ) (kept piece left rest : List ℕ)
-    → Cut a b k m kept piece left rest → length rest + length left < 1024
-    → Gains a b k m (chunks_of (kept ++ piece))
-cut-last a b k m kept piece left rest cut short =
-    let P : List ℕ → Type 0 = λ t. Gains a b k m t in
-    subst P (gathers-chunks kept piece cut.text rest left cut.gathers short) cut.gained
+pub cut-last : (a b : Told) (kept piece left rest : List ℕ) → Cut a b kept piece left rest
+    → length rest + length left < 1024 → Gains a b (chunks_of (kept ++ piece))
+cut-last a b kept piece left rest cut short =
+    let P : List ℕ → Type 0 = λ t. Gains a b t in
+    subst P (gathers-chunks kept piece cut.more rest left cut.holds short) cut.gained
 
-pub cut-rest : (a b : Option (List ℕ)) (k m : Option ℕ) (kept piece left rest : List ℕ)
-    → Cut a b k m kept piece left rest → length rest + length left < 1024
-    → rest ++ left ≡ rest_of (kept ++ piece)
-cut-rest a b k m kept piece left rest cut short = gathers-rest kept piece cut.text rest left cut.gathers short
+pub cut-rest : (a b : Told) (kept piece left rest : List ℕ) → Cut a b kept piece left rest
+    → length rest + length left < 1024 → rest ++ left ≡ rest_of (kept ++ piece)
+cut-rest a b kept piece left rest cut short = gathers-rest kept piece cut.more rest left cut.holds short

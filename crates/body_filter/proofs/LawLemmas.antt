@@ -3,7 +3,7 @@ use Rattle.std.proofs.Common.{◌≡◌, ℕ, zero, suc, ◌+◌, ◌*◌, ◌<�
 use Rattle.std.proofs.lemmas.List.{length-take-le}
 use Rattle.std.specs.Fmt.{digits}
 use Rattle.orb_io.specs.Told.{IsPrefix}
-use Rattle.orb_io.proofs.ToldLemmas.{IsPrefix-none, IsPrefix-append, IsPrefix-behind}
+use Rattle.orb_io.proofs.ToldLemmas.{IsPrefix-none, IsPrefix-append, IsPrefix-after}
 use Rattle.response_rules.specs.declared.rules.Rule.{Rule}
 use Rattle.response_rules.specs.Rules.{is_allowing}
 use Rattle.response_rules.specs.Tables.{window_rule_of}
@@ -30,7 +30,7 @@ front-grows x m more = by (is_sent x.head m) refl
     by false unsent = rw (front-unsent x m unsent) (IsPrefix-none (front_of x (m ++ more)))
     by true sent =
         rw (front-sent x m sent, front-sent x (m ++ more) (sent-longer x.head m more sent))
-        (IsPrefix-behind x.bytes (body_front x.chunked m) (body_front x.chunked (m ++ more)) (body-grows x.chunked m more))
+        (IsPrefix-after x.bytes (body_front x.chunked m) (body_front x.chunked (m ++ more)) (body-grows x.chunked m more))
 
 -- a whole exchange that a rule decides
 pub whole-decided : (x : Exchange) (m : List ℕ) (r : Rule) → window_rule_of x.head m ≡ Some r → whole_of x m ≡ decided_by x m r
@@ -53,7 +53,7 @@ front-whole_now x m decided = by (is_sent x.head m) refl
     whole None rule some sent = absurd (grind (arith, some))
     whole (Some r) rule some sent =
         rw (front-sent x m sent, whole-allowed x m r rule (sent-allows x.head m r sent rule), whole-is x.chunked m)
-        (IsPrefix-behind x.bytes (body_front x.chunked m) (body_front x.chunked m ++ end_of x.chunked (kept_of x.chunked m))
+        (IsPrefix-after x.bytes (body_front x.chunked m) (body_front x.chunked m ++ end_of x.chunked (kept_of x.chunked m))
         (IsPrefix-append (body_front x.chunked m) (end_of x.chunked (kept_of x.chunked m))))
 
     by : (b : Bool) → is_sent x.head m ≡ b → IsPrefix (front_of x m) (whole_of x m)

@@ -2,7 +2,6 @@ pub mod ChunkLemmas
 pub mod CutLemmas
 pub mod DigitLemmas
 pub mod WriteLemmas
-pub mod PutLemmas
 pub mod ReplyLemmas
 pub mod FilterLemmas
 pub mod HeldLemmas

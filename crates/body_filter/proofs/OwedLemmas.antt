@@ -24,11 +24,12 @@ first-sent x sent =
     sym (front-sent x [] sent ∙ (ap (λ t. x.bytes ++ t) (front-none x.chunked) ∙ append-nil x.bytes))
 
 -- a body that was held, and goes out
-pub release-is : (x : Exchange) (m p : List ℕ) (chunked : Bool) (rest head held given : List ℕ)
-    → chunked ≡ x.chunked → rest ≡ [] → head ≡ x.bytes → held ≡ m → given ≡ [] → is_sent x.head (m ++ p) ≡ true
-    → given ++ (head ++ (put_of chunked rest held ++ put_of chunked (kept_behind chunked rest held) p)) ≡ front_of x (m ++ p)
-release-is x m p chunked rest head held given is none same all nothing sent =
-    rw (is, none, same, all, nothing)
+pub release-is : (x : Exchange) (m p : List ℕ) (chunked : Bool) (rest head held : List ℕ)
+    → chunked ≡ x.chunked → rest ≡ [] → head ≡ x.bytes → held ≡ m → is_sent x.head m ≡ false
+    → is_sent x.head (m ++ p) ≡ true
+    → front_of x m ++ (head ++ (put_of chunked rest held ++ put_of chunked (kept_behind chunked rest held) p)) ≡ front_of x (m ++ p)
+release-is x m p chunked rest head held is none same all unsent sent =
+    rw (is, none, same, all, front-unsent x m unsent)
     (ap (λ t. x.bytes ++ t) (released x.chunked m p) ∙ sym (front-sent x (m ++ p) sent))
 
 pub release-kept : (x : Exchange) (m p : List ℕ) (chunked : Bool) (rest held : List ℕ)
@@ -37,11 +38,11 @@ pub release-kept : (x : Exchange) (m p : List ℕ) (chunked : Bool) (rest held :
 release-kept x m p chunked rest held is none all = rw (is, none, all) (released-kept x.chunked m p)
 
 -- one that goes out already
-pub sending-is : (x : Exchange) (m p : List ℕ) (chunked : Bool) (rest given : List ℕ)
-    → chunked ≡ x.chunked → rest ≡ kept_of x.chunked m → given ≡ front_of x m → is_sent x.head m ≡ true
-    → is_sent x.head (m ++ p) ≡ true → given ++ put_of chunked rest p ≡ front_of x (m ++ p)
-sending-is x m p chunked rest given is kept gave sent sent' =
-    rw (is, kept, gave, front-sent x m sent)
+pub sending-is : (x : Exchange) (m p : List ℕ) (chunked : Bool) (rest : List ℕ)
+    → chunked ≡ x.chunked → rest ≡ kept_of x.chunked m → is_sent x.head m ≡ true
+    → is_sent x.head (m ++ p) ≡ true → front_of x m ++ put_of chunked rest p ≡ front_of x (m ++ p)
+sending-is x m p chunked rest is kept sent sent' =
+    rw (is, kept, front-sent x m sent)
     (append_assoc x.bytes (body_front x.chunked m) (put_of x.chunked (kept_of x.chunked m) p)
     ∙ (ap (λ t. x.bytes ++ t) (sym (front-on x.chunked m p)) ∙ sym (front-sent x (m ++ p) sent')))
 
@@ -50,11 +51,11 @@ pub sending-kept : (x : Exchange) (m p : List ℕ) (chunked : Bool) (rest : List
 sending-kept x m p chunked rest is kept = rw (is, kept) (sym (kept-on x.chunked m p))
 
 -- the end of one that goes out
-ends_sent : (x : Exchange) (m : List ℕ) (v : Verdict) (chunked : Bool) (rest given : List ℕ)
-    → chunked ≡ x.chunked → rest ≡ kept_of x.chunked m → given ≡ front_of x m → is_sent x.head m ≡ true
-    → IsVerdict x.head m v → given ++ end_of chunked rest ≡ whole_of x m
-ends_sent x m v chunked rest given is kept gave sent verdict =
-    rw (is, kept, gave, front-sent x m sent)
+ends_sent : (x : Exchange) (m : List ℕ) (v : Verdict) (chunked : Bool) (rest : List ℕ)
+    → chunked ≡ x.chunked → rest ≡ kept_of x.chunked m → is_sent x.head m ≡ true
+    → IsVerdict x.head m v → front_of x m ++ end_of chunked rest ≡ whole_of x m
+ends_sent x m v chunked rest is kept sent verdict =
+    rw (is, kept, front-sent x m sent)
     (append_assoc x.bytes (body_front x.chunked m) (end_of x.chunked (kept_of x.chunked m))
     ∙ (ap (λ t. x.bytes ++ t) (sym (whole-is x.chunked m))
     ∙ sym (whole-allowed x m v.rule verdict.rule (sent-allows x.head m v.rule sent verdict.rule))))
@@ -74,19 +75,19 @@ ends_held x m v chunked rest head held is none same all verdict = by v.allow (sy
         (ap (λ t. x.bytes ++ t) (held-whole x.chunked m) ∙ sym (whole-allowed x m v.rule verdict.rule allows))
     by false blocks = sym (whole-blocked x m v.rule verdict.rule blocks)
 
-pub ended-is : (p : Phase) (f g : Filter) (x : Exchange) (m given : List ℕ) (v : Verdict) → Stands p f x m
-    → given ≡ front_of x m → IsVerdict x.head m v → g.writer ≡ f.writer → g.head ≡ f.head → g.held ≡ f.held
-    → given ++ ended_by p g v ≡ whole_of x m
-ended-is phase.Idle f g x m given v stands gave verdict writer head held = absurd stands
-ended-is phase.Holding f g x m given v stands gave verdict writer head held =
-    rw (gave, front-unsent x m stands.unsent)
+pub ended-is : (p : Phase) (f g : Filter) (x : Exchange) (m : List ℕ) (v : Verdict) → Stands p f x m
+    → IsVerdict x.head m v → g.writer ≡ f.writer → g.head ≡ f.head → g.held ≡ f.held
+    → front_of x m ++ ended_by p g v ≡ whole_of x m
+ended-is phase.Idle f g x m v stands verdict writer head held = absurd stands
+ended-is phase.Holding f g x m v stands verdict writer head held =
+    rw (front-unsent x m stands.unsent)
     (ends_held x m v g.writer.chunked g.writer.rest.items g.head.items g.held.items
     (ap (λ w. w.chunked) writer ∙ stands.chunked) (ap (λ w. w.rest.items) writer ∙ stands.rest)
     (ap (λ t. t.items) head ∙ stands.head) (ap (λ t. t.items) held ∙ stands.held) verdict)
-ended-is phase.Sending f g x m given v stands gave verdict writer head held =
-    ends_sent x m v g.writer.chunked g.writer.rest.items given
+ended-is phase.Sending f g x m v stands verdict writer head held =
+    ends_sent x m v g.writer.chunked g.writer.rest.items
     (ap (λ w. w.chunked) writer ∙ stands.chunked) (ap (λ w. w.rest.items) writer ∙ stands.rest)
-    gave stands.sent verdict
-ended-is phase.Dropping f g x m given v stands gave verdict writer head held =
-    rw (gave, front-unsent x m (given_up-unsent x.head m stands.over))
+    stands.sent verdict
+ended-is phase.Dropping f g x m v stands verdict writer head held =
+    rw (front-unsent x m (given_up-unsent x.head m stands.over))
     (sym (whole-blocked x m v.rule verdict.rule (given_up-blocks x.head m v.rule stands.over verdict.rule)))

@@ -1,7 +1,6 @@
 pub mod Chunks
 pub mod Reply
 pub mod Exchanges
-pub mod Puts
 pub mod Writes
 pub mod Judged
 pub mod Reads

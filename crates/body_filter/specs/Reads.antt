@@ -1,18 +1,16 @@
 -- What a filter has read of a response, and what its calls do then.
-use Rattle.std.specs.Prelude.{◌≡◌, ℕ, true, false, List, [], ◌++◌, length, Option, is_some, Result, Ok, Err, if◌then◌else◌}
+use Rattle.std.specs.Prelude.{◌≡◌, ℕ, true, false, List, [], ◌++◌, length, Option, is_some, if◌then◌else◌}
 use Rattle.response_rules.specs.declared.deciding.Decider.{Decider}
 use Rattle.response_rules.specs.declared.verdicts.Verdict.{Verdict}
 use Rattle.response_rules.specs.Heads.{Head}
 use Rattle.response_rules.specs.Tables.{window_rule_of}
 use Rattle.response_rules.specs.Settled.{is_sent}
 use Rattle.response_rules.specs.Reads.{HasRead as DeciderHasRead}
-use Rattle.orb_io.specs.Told.{Gains}
 use Rattle.body_filter.specs.declared.filtering.Filter.{Filter}
 use Rattle.body_filter.specs.declared.phases.Phase.{Phase}
 use Rattle.body_filter.specs.declared.phases.Phase.TheVariants as phase
 use Rattle.body_filter.specs.Chunks.{kept_of}
-use Rattle.body_filter.specs.Exchanges.{Exchange, front_of, is_given_up}
-use Rattle.body_filter.specs.Puts.{Falls}
+use Rattle.body_filter.specs.Exchanges.{Exchange, is_given_up}
 use Rattle.body_filter.specs.Reply.{reply_of}
 use Rattle.body_filter.specs.Writes.{put_of, kept_behind, end_of}
 use Rattle.body_filter.specs.Judged.{Decides}
@@ -57,31 +55,28 @@ Stands phase.Holding f x m = Holds f x m
 Stands phase.Sending f x m = Sends f x m
 Stands phase.Dropping f x m = Drops x m
 
--- it has read this front of the body of that response, and put these bytes since it began
-pub record HasRead (f : Filter) (x : Exchange) (m given : List ℕ) : Type 0 where
+-- it has read this prefix of the body of that response, and put what goes out of the response then
+pub record HasRead (f : Filter) (x : Exchange) (m : List ℕ) : Type 0 where
   pub limit : x.head.limit ≡ limit_of f
   pub decides : Decides f.decider x.head m
-  pub gave : given ≡ front_of x m
   pub stands : Stands f.phase f x m
 
 -- it reads a response
 pub record CanFeed (f : Filter) : Type 0 where
   pub x : Exchange
   pub m : List ℕ
-  pub given : List ℕ
-  pub reads : HasRead f x m given
+  pub reads : HasRead f x m
 
 -- it reads one that a rule of the head or the window decides, if its body ends here
 pub record CanEnd (f : Filter) : Type 0 where
   pub x : Exchange
   pub m : List ℕ
-  pub given : List ℕ
-  pub reads : HasRead f x m given
+  pub reads : HasRead f x m
   pub decided : is_some (window_rule_of x.head m) ≡ true
 
 -- it reads none
 abbrev pub IsSpent : Filter → Type 0
-IsSpent f = (x : Exchange) (m given : List ℕ) → HasRead f x m given → ⊥
+IsSpent f = (x : Exchange) (m : List ℕ) → HasRead f x m → ⊥
 
 -- the decider is new, and made for a response that is read for a script up to that limit
 pub record IsMadeFor (decider : Decider) (most : ℕ) : Type 0 where
@@ -99,17 +94,3 @@ ended_by phase.Holding f verdict =
     else reply_of verdict.rule
 ended_by phase.Sending f verdict = end_of f.writer.chunked f.writer.rest.items
 ended_by phase.Dropping f verdict = reply_of verdict.rule
-
--- the sink gained some bytes, and the filter has then read this front of the body, and put these bytes
--- behind those that it had given
-pub record Feeds (f : Filter) (put put' : Option (List ℕ)) (size size' : Option ℕ) (x : Exchange) (m given : List ℕ) : Type 0
-  where
-    pub more : List ℕ
-    pub gained : Gains put put' size size' more
-    pub reads : HasRead f x m (given ++ more)
-
--- that, or, at a fault, that all that was put is a front of what would have been
-abbrev pub Fed : {T E : Type 0} → Result T E → Filter → Option (List ℕ) → Option (List ℕ) → Option ℕ → Option ℕ
-    → Exchange → List ℕ → List ℕ → Type 0
-Fed (Ok done) f put put' size size' x m given = Feeds f put put' size size' x m given
-Fed (Err fault) f put put' size size' x m given = Falls put put' size size' given (front_of x m)

@@ -32,13 +32,13 @@ pub struct Filter {
 
 impl Filter {
     ghost use Rattle.std.specs.Prelude.{◌≡◌, ℕ, ◌++◌, List, [], length, IfOk, OnOk, OnErr};
-    ghost use Rattle.orb_io.specs.Told.{HasCause};
+    ghost use Rattle.orb_io.specs.Told.{Delivers};
+    ghost use Rattle.orb_io.specs.Calls.{Calls};
     ghost use Rattle.response_rules.specs.Heads.{Head};
     ghost use Rattle.response_rules.specs.Tables.{window_rule_of};
     ghost use Rattle.response_rules.specs.Reads.{HasRead as DeciderHasRead, IsVerdict};
     ghost use Rattle.body_filter.specs.Exchanges.{Exchange, exchange_of, front_of, whole_of, held_of};
-    ghost use Rattle.body_filter.specs.Puts.{Makes, Falls};
-    ghost use Rattle.body_filter.specs.Reads.{HasRead, CanFeed, CanEnd, IsSpent, IsMadeFor, Feeds, limit_of, held_in};
+    ghost use Rattle.body_filter.specs.Reads.{HasRead, CanFeed, CanEnd, IsSpent, IsMadeFor, limit_of, held_in};
 
     /// A filter that holds back at most `limit` bytes of a body, from 1,024 to 268,435,456. It reserves
     /// room for them and for a head of 65,536 bytes.
@@ -79,15 +79,12 @@ impl Filter {
     ) -> Result<(), WriteFault>
         requires short { length head.now ≤ 65536 }
         requires made { IsMadeFor decider (limit_of self.old) }
-        ensures feeds { OnOk result ((h : Head) → DeciderHasRead decider h []
-            → Feeds self.new (O.put sink.old) (O.put sink.new) (O.size sink.old) (O.size sink.new)
-            (exchange_of h head.now chunked) [] []) }
-        ensures falls { OnErr result ((h : Head) → DeciderHasRead decider h []
-            → Falls (O.put sink.old) (O.put sink.new) (O.size sink.old) (O.size sink.new)
-            [] (front_of (exchange_of h head.now chunked) [])) }
+        ensures delivers { (h : Head) → DeciderHasRead decider h []
+            → Delivers result (O.told sink.old) (O.told sink.new)
+            [] (front_of (exchange_of h head.now chunked) [])
+            (λ _. HasRead self.new (exchange_of h head.now chunked) []) }
         ensures spent { OnErr result (IsSpent self.new) }
-        ensures cause { HasCause (O.faults sink.old) (O.faults sink.new) result }
-        ensures keeps { O.kept sink.old sink.new }
+        ensures calls { Calls O.Sink result sink.old sink.new }
         ensures limit { limit_of self.new ≡ limit_of self.old }
     {
         let judgement = judge(&decider);
@@ -116,15 +113,11 @@ impl Filter {
     /// then, all that was held and the piece go out.
     pub fn feed<O: Sink>(&mut self, piece: &[u8], sink: &mut O) -> Result<(), WriteFault>
         requires { CanFeed self.old }
-        ensures feeds { OnOk result ((x : Exchange) (m given : List ℕ) → HasRead self.old x m given
-            → Feeds self.new (O.put sink.old) (O.put sink.new) (O.size sink.old) (O.size sink.new)
-            x (m ++ piece.now) given) }
-        ensures falls { OnErr result ((x : Exchange) (m given : List ℕ) → HasRead self.old x m given
-            → Falls (O.put sink.old) (O.put sink.new) (O.size sink.old) (O.size sink.new)
-            given (front_of x (m ++ piece.now))) }
+        ensures delivers { (x : Exchange) (m : List ℕ) → HasRead self.old x m
+            → Delivers result (O.told sink.old) (O.told sink.new)
+            (front_of x m) (front_of x (m ++ piece.now)) (λ _. HasRead self.new x (m ++ piece.now)) }
         ensures spent { OnErr result (IsSpent self.new) }
-        ensures cause { HasCause (O.faults sink.old) (O.faults sink.new) result }
-        ensures keeps { O.kept sink.old sink.new }
+        ensures calls { Calls O.Sink result sink.old sink.new }
         ensures limit { limit_of self.new ≡ limit_of self.old }
     {
         match self.phase {
@@ -143,18 +136,12 @@ impl Filter {
     /// The filter then takes only `begin`.
     pub fn end<O: Sink>(&mut self, sink: &mut O) -> Result<Verdict, WriteFault>
         requires { CanEnd self.old }
-        ensures makes { IfOk result (λ _. (x : Exchange) (m given : List ℕ) → HasRead self.old x m given
-            → Makes (O.put sink.old) (O.put sink.new) (O.size sink.old) (O.size sink.new)
-            given (whole_of x m)) }
-        ensures verdict { IfOk result (λ v. (x : Exchange) (m given : List ℕ) → HasRead self.old x m given
-            → IsVerdict x.head m v) }
-        ensures falls { OnErr result ((x : Exchange) (m given : List ℕ) → HasRead self.old x m given
-            → Falls (O.put sink.old) (O.put sink.new) (O.size sink.old) (O.size sink.new)
-            given (whole_of x m)) }
+        ensures delivers { (x : Exchange) (m : List ℕ) → HasRead self.old x m
+            → Delivers result (O.told sink.old) (O.told sink.new)
+            (front_of x m) (whole_of x m) (λ v. IsVerdict x.head m v) }
         ensures spent { IsSpent self.new }
         ensures empty { OnOk result (held_in self.new ≡ 0) }
-        ensures cause { HasCause (O.faults sink.old) (O.faults sink.new) result }
-        ensures keeps { O.kept sink.old sink.new }
+        ensures calls { Calls O.Sink result sink.old sink.new }
         ensures limit { limit_of self.new ≡ limit_of self.old }
     {
         let verdict = finish(&mut self.decider);
@@ -167,7 +154,7 @@ impl Filter {
     /// How many bytes of the body are held back.
     pub fn held(&self) -> usize
         ensures value { result ≡ held_in self.now }
-        ensures exact { (x : Exchange) (m given : List ℕ) → HasRead self.now x m given → result ≡ held_of x m }
+        ensures exact { (x : Exchange) (m : List ℕ) → HasRead self.now x m → result ≡ held_of x m }
         ensures bounded { result ≤ limit_of self.now }
     {
         match self.phase {
@@ -180,8 +167,7 @@ impl Filter {
     /// The rule of the head or the window that decides if the body ends here; `None` exactly where none
     /// holds.
     pub fn window_rule(&self) -> Option<Rule>
-        ensures { (x : Exchange) (m given : List ℕ) → HasRead self.now x m given
-            → result ≡ window_rule_of x.head m }
+        ensures { (x : Exchange) (m : List ℕ) → HasRead self.now x m → result ≡ window_rule_of x.head m }
     {
         match &self.decider {
             Some(decider) => decider.window_rule(),
@@ -192,20 +178,20 @@ impl Filter {
 
 impl Filter {
     ghost use Rattle.std.specs.Prelude.{◌≡◌, ℕ, ◌++◌, List, OnErr};
-    ghost use Rattle.orb_io.specs.Told.{Pushes, HasCause};
-    ghost use Rattle.body_filter.specs.Exchanges.{Exchange};
-    ghost use Rattle.body_filter.specs.Reads.{HasRead, CanFeed, Fed, limit_of, ended_by};
+    ghost use Rattle.orb_io.specs.Told.{Delivers};
+    ghost use Rattle.orb_io.specs.Calls.{Calls, Puts};
+    ghost use Rattle.body_filter.specs.Exchanges.{Exchange, front_of};
+    ghost use Rattle.body_filter.specs.Reads.{HasRead, CanFeed, limit_of, ended_by};
 
     /// Reads a piece of a body that is held: keeps it, or lets all go, or drops all.
     fn feed_held<O: Sink>(&mut self, piece: &[u8], sink: &mut O) -> Result<(), WriteFault>
         requires can { CanFeed self.old }
         requires holding { self.old.phase ≡ Phase.Holding }
-        ensures fed { (x : Exchange) (m given : List ℕ) → HasRead self.old x m given
-            → Fed result self.new (O.put sink.old) (O.put sink.new) (O.size sink.old) (O.size sink.new)
-            x (m ++ piece.now) given }
+        ensures delivers { (x : Exchange) (m : List ℕ) → HasRead self.old x m
+            → Delivers result (O.told sink.old) (O.told sink.new)
+            (front_of x m) (front_of x (m ++ piece.now)) (λ _. HasRead self.new x (m ++ piece.now)) }
         ensures idle { OnErr result (self.new.phase ≡ Phase.Idle) }
-        ensures cause { HasCause (O.faults sink.old) (O.faults sink.new) result }
-        ensures keeps { O.kept sink.old sink.new }
+        ensures calls { Calls O.Sink result sink.old sink.new }
         ensures limit { limit_of self.new ≡ limit_of self.old }
     {
         let fits = piece.len() <= self.limit - self.held.len();
@@ -231,12 +217,11 @@ impl Filter {
     fn feed_sent<O: Sink>(&mut self, piece: &[u8], sink: &mut O) -> Result<(), WriteFault>
         requires can { CanFeed self.old }
         requires sending { self.old.phase ≡ Phase.Sending }
-        ensures fed { (x : Exchange) (m given : List ℕ) → HasRead self.old x m given
-            → Fed result self.new (O.put sink.old) (O.put sink.new) (O.size sink.old) (O.size sink.new)
-            x (m ++ piece.now) given }
+        ensures delivers { (x : Exchange) (m : List ℕ) → HasRead self.old x m
+            → Delivers result (O.told sink.old) (O.told sink.new)
+            (front_of x m) (front_of x (m ++ piece.now)) (λ _. HasRead self.new x (m ++ piece.now)) }
         ensures idle { OnErr result (self.new.phase ≡ Phase.Idle) }
-        ensures cause { HasCause (O.faults sink.old) (O.faults sink.new) result }
-        ensures keeps { O.kept sink.old sink.new }
+        ensures calls { Calls O.Sink result sink.old sink.new }
         ensures limit { limit_of self.new ≡ limit_of self.old }
     {
         let _judgement = read_on(&mut self.decider, piece);
@@ -246,10 +231,7 @@ impl Filter {
 
     /// Puts what is owed at the end.
     fn put_end<O: Sink>(&mut self, verdict: &Verdict, sink: &mut O) -> Result<(), WriteFault>
-        ensures bytes { Pushes (O.put sink.old) (O.put sink.new) (O.size sink.old) (O.size sink.new)
-            result (ended_by self.old.phase self.old verdict.now) }
-        ensures cause { HasCause (O.faults sink.old) (O.faults sink.new) result }
-        ensures keeps { O.kept sink.old sink.new }
+        ensures puts { Puts O.Sink result sink.old sink.new (ended_by self.old.phase self.old verdict.now) }
         ensures limit { limit_of self.new ≡ limit_of self.old }
     {
         match self.phase {

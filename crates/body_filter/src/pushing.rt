@@ -1,8 +1,7 @@
 //! What is put into a sink.
-ghost use Rattle.std.specs.Prelude.{◌≡◌};
-ghost use Rattle.orb_io.specs.Told.{Pushes, HasCause};
+ghost use Rattle.orb_io.specs.Calls.{Puts};
 
-use orb_io::{Failed, Sink};
+use orb_io::{Failed, Sink, push_nonempty};
 
 /// The sink failed. It comes only where the sink's count of faults rose.
 #[derive(Clone, Copy, Debug, PartialEq, Eq)]
@@ -10,15 +9,9 @@ pub struct WriteFault;
 
 /// Puts the bytes by one push, where there are any.
 pub(crate) fn put_bytes<O: Sink>(bytes: &[u8], sink: &mut O) -> Result<(), WriteFault>
-    ensures bytes { Pushes (O.put sink.old) (O.put sink.new) (O.size sink.old) (O.size sink.new)
-        result bytes.now }
-    ensures cause { HasCause (O.faults sink.old) (O.faults sink.new) result }
-    ensures keeps { O.kept sink.old sink.new }
+    ensures puts { Puts O.Sink result sink.old sink.new bytes.now }
 {
-    if bytes.is_empty() {
-        return Ok(());
-    }
-    match sink.push(bytes) {
+    match push_nonempty(bytes, sink) {
         Ok(()) => Ok(()),
         Err(Failed) => Err(WriteFault),
     }

@@ -1,6 +1,6 @@
 //! What stands in the place of a response that is blocked.
 ghost use Rattle.std.specs.Prelude.{◌≡◌};
-ghost use Rattle.orb_io.specs.Told.{Pushes, HasCause};
+ghost use Rattle.orb_io.specs.Calls.{Puts};
 ghost use Rattle.body_filter.specs.Reply.{reply_of};
 
 use crate::pushing::{WriteFault, put_bytes};
@@ -17,10 +17,7 @@ const FRONT: &[u8] = b"HTTP/1.1 403 Forbidden\r\nContent-Length: 0\r\nOrb-Rule: 
 
 /// Puts the reply that names the rule, by one push.
 pub(crate) fn put_reply<O: Sink>(rule: Rule, sink: &mut O) -> Result<(), WriteFault>
-    ensures bytes { Pushes (O.put sink.old) (O.put sink.new) (O.size sink.old) (O.size sink.new)
-        result (reply_of rule) }
-    ensures cause { HasCause (O.faults sink.old) (O.faults sink.new) result }
-    ensures keeps { O.kept sink.old sink.new }
+    ensures puts { Puts O.Sink result sink.old sink.new (reply_of rule) }
 {
     put_bytes(reply(rule).as_slice(), sink)
 }

@@ -1,6 +1,6 @@
 //! A body on its way out, as it was framed when it came.
 ghost use Rattle.std.specs.Prelude.{◌≡◌, ◌<◌, ◌≤◌, ◌+◌, ◌++◌, [], length, OnOk};
-ghost use Rattle.orb_io.specs.Told.{Pushes, HasCause};
+ghost use Rattle.orb_io.specs.Calls.{Puts};
 ghost use Rattle.body_filter.specs.Chunks.{chunk, full_chunks, count_full, rest_of, rest_chunk, last_chunk};
 ghost use Rattle.body_filter.specs.Writes.{put_of, kept_behind, end_of, Gathers};
 
@@ -61,13 +61,10 @@ impl BodyWriter {
 
     /// Puts the next piece of the body: as it is, or what it fills of chunks.
     pub(crate) fn put<O: Sink>(&mut self, piece: &[u8], sink: &mut O) -> Result<(), WriteFault>
-        ensures bytes { Pushes (O.put sink.old) (O.put sink.new) (O.size sink.old) (O.size sink.new)
-            result (put_of self.old.chunked self.old.rest.items piece.now) }
+        ensures puts { Puts O.Sink result sink.old sink.new (put_of self.old.chunked self.old.rest.items piece.now) }
         ensures rest { OnOk result
             (self.new.rest.items ≡ kept_behind self.old.chunked self.old.rest.items piece.now) }
         ensures chunked { self.new.chunked ≡ self.old.chunked }
-        ensures cause { HasCause (O.faults sink.old) (O.faults sink.new) result }
-        ensures keeps { O.kept sink.old sink.new }
     {
         if self.chunked {
             put_chunks(&mut self.rest, &mut self.text, piece, sink)
@@ -78,12 +75,9 @@ impl BodyWriter {
 
     /// Puts the end of the body: nothing, or a chunk of the rest and the last chunk.
     pub(crate) fn finish<O: Sink>(&mut self, sink: &mut O) -> Result<(), WriteFault>
-        ensures bytes { Pushes (O.put sink.old) (O.put sink.new) (O.size sink.old) (O.size sink.new)
-            result (end_of self.old.chunked self.old.rest.items) }
+        ensures puts { Puts O.Sink result sink.old sink.new (end_of self.old.chunked self.old.rest.items) }
         ensures rest { self.new.rest.items ≡ self.old.rest.items }
         ensures chunked { self.new.chunked ≡ self.old.chunked }
-        ensures cause { HasCause (O.faults sink.old) (O.faults sink.new) result }
-        ensures keeps { O.kept sink.old sink.new }
     {
         if self.chunked {
             put_end(self.rest.as_slice(), &mut self.text, sink)
@@ -101,15 +95,12 @@ pub(crate) fn release<O: Sink>(
     piece: &[u8],
     sink: &mut O,
 ) -> Result<(), WriteFault>
-    ensures bytes { Pushes (O.put sink.old) (O.put sink.new) (O.size sink.old) (O.size sink.new)
-        result (head.now ++ (put_of writer.old.chunked writer.old.rest.items held.now
+    ensures puts { Puts O.Sink result sink.old sink.new (head.now ++ (put_of writer.old.chunked writer.old.rest.items held.now
         ++ put_of writer.old.chunked
         (kept_behind writer.old.chunked writer.old.rest.items held.now) piece.now)) }
     ensures rest { OnOk result (writer.new.rest.items ≡ kept_behind writer.old.chunked
         (kept_behind writer.old.chunked writer.old.rest.items held.now) piece.now) }
     ensures chunked { writer.new.chunked ≡ writer.old.chunked }
-    ensures cause { HasCause (O.faults sink.old) (O.faults sink.new) result }
-    ensures keeps { O.kept sink.old sink.new }
 {
     put_bytes(head, sink)?;
     writer.put(held, sink)?;
@@ -123,12 +114,9 @@ pub(crate) fn put_whole<O: Sink>(
     held: &[u8],
     sink: &mut O,
 ) -> Result<(), WriteFault>
-    ensures bytes { Pushes (O.put sink.old) (O.put sink.new) (O.size sink.old) (O.size sink.new)
-        result (head.now ++ (put_of writer.old.chunked writer.old.rest.items held.now
+    ensures puts { Puts O.Sink result sink.old sink.new (head.now ++ (put_of writer.old.chunked writer.old.rest.items held.now
         ++ end_of writer.old.chunked
         (kept_behind writer.old.chunked writer.old.rest.items held.now))) }
-    ensures cause { HasCause (O.faults sink.old) (O.faults sink.new) result }
-    ensures keeps { O.kept sink.old sink.new }
 {
     put_bytes(head, sink)?;
     writer.put(held, sink)?;
@@ -144,13 +132,10 @@ fn put_chunks<O: Sink>(
 ) -> Result<(), WriteFault>
     requires short { length rest.old.items < 1024 }
     requires idle { text.old.items ≡ [] }
-    ensures bytes { Pushes (O.put sink.old) (O.put sink.new) (O.size sink.old) (O.size sink.new)
-        result (full_chunks (count_full (rest.old.items ++ piece.now)) (rest.old.items ++ piece.now)) }
+    ensures puts { Puts O.Sink result sink.old sink.new (full_chunks (count_full (rest.old.items ++ piece.now)) (rest.old.items ++ piece.now)) }
     ensures rest { OnOk result (rest.new.items ≡ rest_of (rest.old.items ++ piece.now)) }
     ensures short { length rest.new.items < 1024 }
     ensures idle { text.new.items ≡ [] }
-    ensures cause { HasCause (O.faults sink.old) (O.faults sink.new) result }
-    ensures keeps { O.kept sink.old sink.new }
 {
     let mut left = piece;
     'batches: while CHUNK - rest.len() <= left.len() {
@@ -204,11 +189,8 @@ fn put_end<O: Sink>(
 ) -> Result<(), WriteFault>
     requires short { length rest.now < 1024 }
     requires idle { text.old.items ≡ [] }
-    ensures bytes { Pushes (O.put sink.old) (O.put sink.new) (O.size sink.old) (O.size sink.new)
-        result (rest_chunk rest.now ++ last_chunk) }
+    ensures puts { Puts O.Sink result sink.old sink.new (rest_chunk rest.now ++ last_chunk) }
     ensures idle { text.new.items ≡ [] }
-    ensures cause { HasCause (O.faults sink.old) (O.faults sink.new) result }
-    ensures keeps { O.kept sink.old sink.new }
 {
     if rest.is_empty() {
         put_bytes(b"0\r\n\r\n", sink)
@@ -232,11 +214,8 @@ fn gather_last_chunks(rest: &[u8], text: &mut ArrayVec<u8, BATCH>)
 
 /// Puts the text by one push, and empties it.
 fn put_text<O: Sink>(text: &mut ArrayVec<u8, BATCH>, sink: &mut O) -> Result<(), WriteFault>
-    ensures bytes { Pushes (O.put sink.old) (O.put sink.new) (O.size sink.old) (O.size sink.new)
-        result text.old.items }
+    ensures puts { Puts O.Sink result sink.old sink.new text.old.items }
     ensures idle { text.new.items ≡ [] }
-    ensures cause { HasCause (O.faults sink.old) (O.faults sink.new) result }
-    ensures keeps { O.kept sink.old sink.new }
 {
     let put = put_bytes(text.as_slice(), sink);
     text.clear();

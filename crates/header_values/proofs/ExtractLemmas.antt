@@ -93,9 +93,6 @@ pub record ReadTo (value : List ℕ) (rest : List (List ℕ)) (last : Option Ess
   pub whole : texts ++ rest ≡ parts_of value
   pub is : IsLastOf texts last
 
-pub ReadTo-start : (value : List ℕ) (rest : List (List ℕ)) → rest ≡ parts_of value → ReadTo value rest None
-ReadTo-start value rest all = record { texts = []; whole = all; is = IsLastOf-none }
-
 pub ReadTo-more : (value text : List ℕ) (rest rest' : List (List ℕ)) (last found : Option Essence) → rest ≡ text ∷ rest'
     → IsLastOf (text ∷ []) found → ReadTo value rest last → ReadTo value rest' (option_or found last)
 ReadTo-more value text rest rest' last found next is before = record {
@@ -103,11 +100,6 @@ ReadTo-more value text rest rest' last found next is before = record {
   whole = append_assoc before.texts (text ∷ []) rest' ∙ ap (λ l. before.texts ++ l) (sym next) ∙ before.whole;
   is = IsLastOf-append before.texts (text ∷ []) last found before.is is;
 }
-
-pub ReadTo-end : (value : List ℕ) (rest : List (List ℕ)) (last : Option Essence) → rest ≡ [] → ReadTo value rest last
-    → IsLastOf (parts_of value) last
-ReadTo-end value rest last none before =
-    subst (λ l. IsLastOf l last) (sym (append-nil before.texts) ∙ ap (λ l. before.texts ++ l) (sym none) ∙ before.whole) before.is
 
 -- the answer of a run is its last record, but for the charset
 pub ends : (m : Mime) (ms : List Mime) (n : Mime) → last_of m (ms ++ n ∷ []) ≡ n

@@ -41,9 +41,6 @@ pub record OfHeadTo (head : List ℕ) (spans : List FieldSpan) (i size : ℕ) : 
   pub within : All (IsFieldSpan (length head)) (take i spans)
   pub sum : size ≡ sum_by field_size (pairs_of head (take i spans))
 
-pub OfHeadTo-start : (head : List ℕ) (spans : List FieldSpan) → OfHeadTo head spans 0 0
-OfHeadTo-start head spans = record { within = λ k d less. absurd (omega arith); sum = refl }
-
 length-between : (text : List ℕ) (a b : ℕ) → b ≤ length text → length (slice_range text a b) ≡ b - a
 length-between text a b within = omega (arith, length-take (b - a) (drop a text), length-drop a text)
 

@@ -21,10 +21,6 @@ comma_joined-more first (next ∷ others) value =
     ap (λ rest. first ++ (44 ∷ (32 ∷ rest))) (comma_joined-more next others value)
     ∙ sym (append_assoc first (44 ∷ (32 ∷ comma_joined (next ∷ others))) (44 ∷ (32 ∷ value)))
 
-pub IsWritten-none : IsWritten false [] []
-unfolding IsWritten
-IsWritten-none = (refl, refl)
-
 IsWritten-more : (found : Bool) (text value : List ℕ) (values : List (List ℕ)) → IsWritten found text values
     → IsWritten true (text ++ (separator found ++ value)) (values ++ value ∷ [])
 unfolding IsWritten

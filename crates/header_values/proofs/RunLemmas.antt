@@ -194,8 +194,3 @@ MimesTo-absent value rest so_far none before absent = (
   subst (λ texts. HaveRecords texts before.records) (all_read value rest before.texts none before.whole) before.have,
   sym (ap extracted_of (subst (IsRunOf (kept_of before.records)) absent before.is) ∙ extracted_of-none),
 )
-
-pub extracted_from : (fields : List (List ℕ × List ℕ)) (value : List ℕ) (answer : Option Mime) → Some value ≡ joined fields (codes "Content-Type")
-    → IsLastMime value answer → IsExtracted fields answer
-extracted_from fields value answer whole (records, have, is) =
-    (records, subst (λ value. HaveRecords (parts_left_of value) records) whole have, is)

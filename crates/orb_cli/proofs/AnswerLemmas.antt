@@ -1,7 +1,7 @@
 -- From what the engine answers to what the program does.
 use Rattle.std.proofs.Common.{◌≡◌, ℕ, Bool, true, false, List, [], ◌++◌, Option, Some, refl, sym, ap, ◌∙◌, subst}
 use Rattle.std.proofs.lemmas.List.{append-nil}
-use Rattle.orb_io.specs.Told.{Gains, IsPrefix}
+use Rattle.orb_io.specs.Told.{IsPrefix}
 use Rattle.orb_io.proofs.ToldLemmas.{IsPrefix-trans}
 use Rattle.orb_engine.specs.declared.settings.Settings.{Settings}
 use Rattle.orb_engine.specs.Recording.{Recording, IsRecording}
@@ -15,20 +15,12 @@ use Rattle.orb_engine.specs.declared.outcome.EngineOutcome.{EngineOutcome}
 use Rattle.orb_engine.specs.declared.outcome.EngineOutcome.TheVariants.{Done, Bad, Cut, HeadLimit, MediaFull, NotBuilt, Endless, ReadFault, WriteFault}
 use Rattle.orb_cli.specs.declared.outcome.Outcome.{Outcome}
 use Rattle.orb_cli.specs.Words.{Judge}
-use Rattle.orb_cli.specs.Answer.{Gives, FallsShort, IsJudgeAnswer, Ran}
+use Rattle.orb_cli.specs.Answer.{EndsAt, FallsShort, IsJudgeAnswer, Ran}
 use Rattle.orb_cli.specs.Outcomes.{outcome_of}
 
--- the sink gained what the answer says was written
-pub record Judges (s : Settings) (put put' : Option (List ℕ)) (size size' : Option ℕ) (read : List ℕ) (ended : Bool)
-    (answer : Outcome) : Type 0 where
-  pub wrote : List ℕ
-  pub gained : Gains put put' size size' wrote
-  pub says : IsJudgeAnswer s read ended wrote answer
-
-Gives-ends : (e : Engine) (s : Settings) (put put' : Option (List ℕ)) (size size' : Option ℕ) (read : List ℕ) (ended : Bool)
-    (P : End → Type 0) (stop : End) (h : Ends e s put put' size size' read [] ended P)
-    → stop_of s h.recording ended ≡ stop → Gives s read ended h.more stop
-Gives-ends e s put put' size size' read ended P stop h is =
+EndsAt-ends : (e : Engine) (s : Settings) (read : List ℕ) (ended : Bool) (P : End → Type 0) (stop : End) (wrote : List ℕ)
+    (h : Ends e s read ended P wrote) → stop_of s h.recording ended ≡ stop → EndsAt s read ended wrote stop
+EndsAt-ends e s read ended P stop wrote h is =
     record { recording = h.recording; cut = h.cut; stops = is; output = h.gave }
 
 -- what begins the output of the first bytes begins that of all of them
@@ -43,60 +35,40 @@ within_all s read seen unseen wrote true a r are all x within y =
     let same : read ≡ seen = are ∙ ap (λ l. seen ++ l) none ∙ append-nil seen in
     subst (λ out. IsPrefix wrote out) (one-output s seen a r x (subst (λ m. IsRecording s m r) same y) true) within
 
-FallsShort-fails : (e : Engine) (s : Settings) (put put' : Option (List ℕ)) (size size' : Option ℕ) (read : List ℕ) (ended : Bool)
-    (h : Fails e s put put' size size' read [] ended) → FallsShort s read ended h.more
-FallsShort-fails e s put put' size size' read ended h = record {
+FallsShort-fails : (e : Engine) (s : Settings) (read : List ℕ) (ended : Bool) (wrote : List ℕ) (h : Fails e s read ended wrote)
+    → FallsShort s read ended wrote
+FallsShort-fails e s read ended wrote h = record {
   seen = h.seen;
   unseen = h.unseen;
   are = h.all;
   recording = h.recording;
   cut = h.cut;
   within = h.within;
-  of_all = λ r is. within_all s read h.seen h.unseen h.more ended h.recording r h.all h.all_seen h.cut h.within is;
+  of_all = λ r is. within_all s read h.seen h.unseen wrote ended h.recording r h.all h.all_seen h.cut h.within is;
 }
 
-pub Judges-run : (o : EngineOutcome) (e : Engine) (s : Settings) (put put' : Option (List ℕ)) (size size' : Option ℕ)
-    (read : List ℕ) (ended : Bool) → RunAnswers o e s put put' size size' read ended
-    → Judges s put put' size size' read ended (outcome_of o)
-Judges-run Done e s put put' size size' read ended h =
-    record { wrote = h.more; gained = h.gained; says = Gives-ends e s put put' size size' read ended _ ends.Done h h.stop }
-Judges-run (Bad kind place) e s put put' size size' read ended h =
-    record { wrote = h.more; gained = h.gained; says = Gives-ends e s put put' size size' read ended _ (ends.Bad kind place) h h.stop }
-Judges-run (Cut place) e s put put' size size' read ended h =
-    record { wrote = h.more; gained = h.gained; says = Gives-ends e s put put' size size' read ended _ (ends.Cut place) h h.stop }
-Judges-run (HeadLimit place) e s put put' size size' read ended h =
-    record { wrote = h.more; gained = h.gained; says = Gives-ends e s put put' size size' read ended _ (ends.HeadLimit place) h h.stop }
-Judges-run (MediaFull place) e s put put' size size' read ended h =
-    record { wrote = h.more; gained = h.gained; says = Gives-ends e s put put' size size' read ended _ (ends.MediaFull place) h h.stop }
-Judges-run (NotBuilt place) e s put put' size size' read ended h =
-    record { wrote = h.more; gained = h.gained; says = Gives-ends e s put put' size size' read ended _ (ends.NotBuilt place) h h.stop }
-Judges-run Endless e s put put' size size' read ended h = record {
-  wrote = h.2.more;
-  gained = h.2.gained;
-  says = (h.0, h.1, Gives-ends e s put put' size size' _ false _ ends.Open h.2 h.2.stop);
-}
-Judges-run ReadFault e s put put' size size' read ended h = record {
-  wrote = h.1.more;
-  gained = h.1.gained;
-  says = (h.0, Gives-ends e s put put' size size' read false _ ends.Open h.1 h.1.stop);
-}
-Judges-run WriteFault e s put put' size size' read ended h =
-    record { wrote = h.more; gained = h.gained; says = FallsShort-fails e s put put' size size' read ended h }
+judges : (o : EngineOutcome) (e : Engine) (s : Settings) (read : List ℕ) (ended : Bool) (wrote : List ℕ)
+    → RunAnswers o e s read ended wrote → IsJudgeAnswer s read ended wrote (outcome_of o)
+judges Done e s read ended wrote h = EndsAt-ends e s read ended _ ends.Done wrote h h.stop
+judges (Bad kind place) e s read ended wrote h = EndsAt-ends e s read ended _ (ends.Bad kind place) wrote h h.stop
+judges (Cut place) e s read ended wrote h = EndsAt-ends e s read ended _ (ends.Cut place) wrote h h.stop
+judges (HeadLimit place) e s read ended wrote h = EndsAt-ends e s read ended _ (ends.HeadLimit place) wrote h h.stop
+judges (MediaFull place) e s read ended wrote h = EndsAt-ends e s read ended _ (ends.MediaFull place) wrote h h.stop
+judges (NotBuilt place) e s read ended wrote h = EndsAt-ends e s read ended _ (ends.NotBuilt place) wrote h h.stop
+judges Endless e s read ended wrote h = (h.0, h.1, EndsAt-ends e s _ false _ ends.Open wrote h.2 h.2.stop)
+judges ReadFault e s read ended wrote h = (h.0, EndsAt-ends e s read false _ ends.Open wrote h.1 h.1.stop)
+judges WriteFault e s read ended wrote h = FallsShort-fails e s read ended wrote h
 
-pub Ran-run : (o : EngineOutcome) (e : Engine) (t s : Settings) (left left' put put' : Option (List ℕ)) (size size' : Option ℕ)
-    (answer : Outcome) → t ≡ s → answer ≡ outcome_of o → EngineRan o e t left left' put put' size size'
-    → Ran (Some (Judge s)) left left' put put' size size' answer
-Ran-run o e t s left left' put put' size size' answer same is ran =
-    let judges = Judges-run o e t put put' size size' ran.read ran.ended ran.answers in
-    let these : Ran (Some (Judge t)) left left' put put' size size' (outcome_of o) = record {
+pub Ran-run : (o : EngineOutcome) (e : Engine) (t s : Settings) (left left' : Option (List ℕ)) (answer : Outcome) (wrote : List ℕ)
+    → t ≡ s → answer ≡ outcome_of o → EngineRan o e t left left' wrote → Ran (Some (Judge s)) left left' answer wrote
+Ran-run o e t s left left' answer wrote same is ran =
+    let these : Ran (Some (Judge t)) left left' (outcome_of o) wrote = record {
       read = ran.read;
-      wrote = judges.wrote;
       ended = ran.ended;
       lost = ran.lost;
-      gained = judges.gained;
       at_end = ran.at_end;
       fits = λ never. ran.fits (λ endless. never (ap outcome_of endless));
-      answers = judges.says;
+      answers = judges o e t ran.read ran.ended wrote ran.answers;
     } in
-    subst (λ x. Ran (Some (Judge s)) left left' put put' size size' x) (sym is)
-    (subst (λ x. Ran (Some (Judge x)) left left' put put' size size' (outcome_of o)) same these)
+    subst (λ x. Ran (Some (Judge s)) left left' x wrote) (sym is)
+    (subst (λ x. Ran (Some (Judge x)) left left' (outcome_of o) wrote) same these)

@@ -1,6 +1,6 @@
 -- What an answer of `run` says of the bytes read and written, and of the counts of faults.
 use Rattle.std.specs.Prelude.{◌≡◌, ℕ, ◌<◌, ◌≤◌, Bool, true, false, List, [], ◌++◌, length, take, Option, Some, None}
-use Rattle.orb_io.specs.Told.{Loses, IsAtEnd, Gains, IsPrefix, Rose}
+use Rattle.orb_io.specs.Told.{Loses, IsAtEnd, IsPrefix, Rose}
 use Rattle.orb_engine.specs.declared.settings.Settings.{Settings}
 use Rattle.orb_engine.specs.Recording.{Recording, IsRecording}
 use Rattle.orb_engine.specs.Ends as ends
@@ -17,7 +17,7 @@ abbrev pub Untouched : (read wrote : List ℕ) → Type 0
 Untouched read wrote = (read ≡ []) × (wrote ≡ [])
 
 -- the bytes are a recording that ends so, and all that is written of it was written
-pub record Gives (s : Settings) (read : List ℕ) (ended : Bool) (wrote : List ℕ) (stop : End) : Type 0 where
+pub record EndsAt (s : Settings) (read : List ℕ) (ended : Bool) (wrote : List ℕ) (stop : End) : Type 0 where
   pub recording : Recording
   pub cut : IsRecording s read recording
   pub stops : stop_of s recording ended ≡ stop
@@ -35,48 +35,43 @@ pub record FallsShort (s : Settings) (read : List ℕ) (ended : Bool) (wrote : L
 
 -- what an answer says where a recording is judged by these settings
 abbrev pub IsJudgeAnswer : Settings → (read : List ℕ) (ended : Bool) (wrote : List ℕ) → Outcome → Type 0
-IsJudgeAnswer s read ended wrote outcomes.Done = Gives s read ended wrote ends.Done
-IsJudgeAnswer s read ended wrote (outcomes.Bad kind place) = Gives s read ended wrote (ends.Bad kind place)
-IsJudgeAnswer s read ended wrote (outcomes.Cut place) = Gives s read ended wrote (ends.Cut place)
-IsJudgeAnswer s read ended wrote (outcomes.HeadLimit place) = Gives s read ended wrote (ends.HeadLimit place)
-IsJudgeAnswer s read ended wrote (outcomes.MediaFull place) = Gives s read ended wrote (ends.MediaFull place)
-IsJudgeAnswer s read ended wrote (outcomes.NotBuilt place) = Gives s read ended wrote (ends.NotBuilt place)
+IsJudgeAnswer s read ended wrote outcomes.Done = EndsAt s read ended wrote ends.Done
+IsJudgeAnswer s read ended wrote (outcomes.Bad kind place) = EndsAt s read ended wrote (ends.Bad kind place)
+IsJudgeAnswer s read ended wrote (outcomes.Cut place) = EndsAt s read ended wrote (ends.Cut place)
+IsJudgeAnswer s read ended wrote (outcomes.HeadLimit place) = EndsAt s read ended wrote (ends.HeadLimit place)
+IsJudgeAnswer s read ended wrote (outcomes.MediaFull place) = EndsAt s read ended wrote (ends.MediaFull place)
+IsJudgeAnswer s read ended wrote (outcomes.NotBuilt place) = EndsAt s read ended wrote (ends.NotBuilt place)
 IsJudgeAnswer s read ended wrote outcomes.Endless =
-    (run_limit < length read) × (ended ≡ false) × Gives s (take run_limit read) false wrote ends.Open
-IsJudgeAnswer s read ended wrote outcomes.ReadFault = (ended ≡ false) × Gives s read false wrote ends.Open
+    (run_limit < length read) × (ended ≡ false) × EndsAt s (take run_limit read) false wrote ends.Open
+IsJudgeAnswer s read ended wrote outcomes.ReadFault = (ended ≡ false) × EndsAt s read false wrote ends.Open
 IsJudgeAnswer s read ended wrote outcomes.WriteFault = FallsShort s read ended wrote
 IsJudgeAnswer s read ended wrote outcomes.NoMemory = Untouched read wrote
 IsJudgeAnswer s read ended wrote outcomes.Usage = ⊥
 
 -- what an answer to `mime` with this text says: nothing is ever read
-abbrev pub IsMimeAnswer : (text read wrote : List ℕ) → Outcome → Type 0
-IsMimeAnswer text read wrote outcomes.Done = (read ≡ []) × IsMimeLine text wrote
-IsMimeAnswer text read wrote outcomes.WriteFault =
+abbrev pub IsMimeAnswer : (text read : List ℕ) → Outcome → (wrote : List ℕ) → Type 0
+IsMimeAnswer text read outcomes.Done wrote = (read ≡ []) × IsMimeLine text wrote
+IsMimeAnswer text read outcomes.WriteFault wrote =
     (read ≡ []) × (line : List ℕ) × IsMimeLine text line × IsPrefix wrote line
-IsMimeAnswer text read wrote outcomes.NoMemory = Untouched read wrote
-IsMimeAnswer text read wrote _ = ⊥
+IsMimeAnswer text read outcomes.NoMemory wrote = Untouched read wrote
+IsMimeAnswer text read _ wrote = ⊥
 
 -- what an answer to words that are taken says, by what they ask for
 abbrev pub IsAnswer : Asked → (read : List ℕ) (ended : Bool) (wrote : List ℕ) → Outcome → Type 0
 IsAnswer (Judge s) read ended wrote answer = IsJudgeAnswer s read ended wrote answer
-IsAnswer (Mime text) read ended wrote answer = IsMimeAnswer text read wrote answer
+IsAnswer (Mime text) read ended wrote answer = IsMimeAnswer text read answer wrote
 
 -- what the answer says: `Usage` to words that are not taken, and to no others
 abbrev pub Answers : Option Asked → (read : List ℕ) (ended : Bool) (wrote : List ℕ) → Outcome → Type 0
 Answers None read ended wrote answer = (answer ≡ outcomes.Usage) × Untouched read wrote
 Answers (Some asked) read ended wrote answer = IsAnswer asked read ended wrote answer
 
--- The bytes that the source lost and that the sink gained, whether the input has ended, and what the
--- answer says of them. Each object tells its bytes or it doesn't. More than one run takes are lost only where the
--- answer is Endless.
-pub record Ran
-    (asked : Option Asked) (left left' put put' : Option (List ℕ)) (size size' : Option ℕ)
-    (answer : Outcome) : Type 0 where
+-- The bytes that the source lost, whether the input has ended, and what the answer says of them and of what was
+-- written. More than one run takes are lost only where the answer is Endless.
+pub record Ran (asked : Option Asked) (left left' : Option (List ℕ)) (answer : Outcome) (wrote : List ℕ) : Type 0 where
   pub read : List ℕ
-  pub wrote : List ℕ
   pub ended : Bool
   pub lost : Loses left left' read
-  pub gained : Gains put put' size size' wrote
   pub at_end : ended ≡ true → IsAtEnd left'
   pub fits : (answer ≡ outcomes.Endless → ⊥) → length read ≤ run_limit
   pub answers : Answers asked read ended wrote answer

@@ -1,5 +1,6 @@
 //! The words `filter` and `explain`: a recording from a source to a sink.
-ghost use Rattle.std.specs.Prelude.{◌≡◌, ◌≤◌, ℕ, List, Option, Some};
+ghost use Rattle.std.specs.Prelude.{◌≤◌, [], Some};
+ghost use Rattle.orb_io.specs.Told.{Gives};
 ghost use Rattle.orb_cli.specs.Words.{Judge};
 ghost use Rattle.orb_cli.specs.Answer.{Ran, HasCauses};
 
@@ -17,8 +18,8 @@ pub fn judge<I: Source, O: Sink>(
 ) -> Outcome
     requires low { 1024 ≤ settings.limit }
     requires high { settings.limit ≤ 268435456 }
-    ensures ran { Ran (Some (Judge settings)) (I.left input.old) (I.left input.new)
-        (O.put output.old) (O.put output.new) (O.size output.old) (O.size output.new) result }
+    ensures ran { Gives (O.told output.old) (O.told output.new) []
+        (Ran (Some (Judge settings)) (I.left input.old) (I.left input.new) result) }
     ensures causes { HasCauses (I.faults input.old) (I.faults input.new)
         (O.faults output.old) (O.faults output.new) result }
 {

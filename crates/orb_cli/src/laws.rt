@@ -16,17 +16,16 @@ ghost use Rattle.orb_cli.specs.Complete.{IsComplete, IsCompleteText};
 /// that all that is written of the recording was written. With `mime` it says that the line was written.
 pub fn completeness()
     ensures recordings { (s : Settings) (bytes : List ℕ) (r : Recording)
-        (left' put put' : Option (List ℕ)) (size size' : Option ℕ)
-        (source source' sink sink' : ℕ) (answer : Outcome)
+        (left' : Option (List ℕ)) (wrote : List ℕ) (source source' sink sink' : ℕ) (answer : Outcome)
         → IsWholeRecording s bytes r
-        → Ran (Some (Judge s)) (Some bytes) left' put put' size size' answer
+        → Ran (Some (Judge s)) (Some bytes) left' answer wrote
         → HasCauses source source' sink sink' answer
         → ¬ (Rose source source') → ¬ (Rose sink sink')
-        → IsComplete s bytes r left' put put' size size' answer }
-    ensures texts { (text : List ℕ) (left left' put put' : Option (List ℕ)) (size size' : Option ℕ)
+        → IsComplete s bytes r left' wrote answer }
+    ensures texts { (text : List ℕ) (left left' : Option (List ℕ)) (wrote : List ℕ)
         (source source' sink sink' : ℕ) (answer : Outcome)
-        → Ran (Some (Mime text)) left left' put put' size size' answer
+        → Ran (Some (Mime text)) left left' answer wrote
         → HasCauses source source' sink sink' answer
         → ¬ (Rose sink sink')
-        → IsCompleteText text put put' size size' answer }
+        → IsCompleteText text wrote answer }
 {}

@@ -16,7 +16,6 @@ mod report;
 #[cfg(test)]
 mod tests;
 mod top;
-mod writing;
 
 pub use laws::completeness;
 pub use outcome::Outcome;

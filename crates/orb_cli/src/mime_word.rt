@@ -1,24 +1,22 @@
 //! The word `mime`: the MIME type of a text, in a line.
 ghost use Rattle.std.specs.Prelude.{◌≡◌, ℕ, List, [], IfOk, OnOk, ◌++◌};
-ghost use Rattle.orb_io.specs.Told.{Gains};
+ghost use Rattle.orb_io.specs.Told.{Gives};
 ghost use Rattle.orb_cli.specs.MimeLine.{IsMimeText, IsMimeLine};
 ghost use Rattle.orb_cli.specs.Answer.{IsMimeAnswer, HasCauses};
 
 use crate::outcome::Outcome;
-use crate::writing::write;
 use mime_types::{MimeError, MimeType};
-use orb_io::{Failed, NoMemory, Sink};
+use orb_io::{Failed, NoMemory, Sink, push_nonempty};
 use std::alloc::Global;
 
 /// Writes the MIME type of the text, or `failure` where it is the text of none, and a line feed.
 pub fn mime<O: Sink>(alloc: Global, text: &[u8], output: &mut O) -> Outcome
-    ensures wrote { (wrote : List ℕ) × Gains (O.put output.old) (O.put output.new)
-        (O.size output.old) (O.size output.new) wrote × IsMimeAnswer text.now [] wrote result }
+    ensures wrote { Gives (O.told output.old) (O.told output.new) [] (IsMimeAnswer text.now [] result) }
     ensures causes { (n : ℕ) → HasCauses n n (O.faults output.old) (O.faults output.new) result }
 {
     match mime_line(alloc, text) {
         Err(NoMemory) => Outcome::NoMemory,
-        Ok(line) => match write(output, line.as_slice()) {
+        Ok(line) => match push_nonempty(line.as_slice(), output) {
             Ok(()) => Outcome::Done,
             Err(Failed) => Outcome::WriteFault,
         },

@@ -1,5 +1,6 @@
 //! The top call.
-ghost use Rattle.std.specs.Prelude.{◌≡◌, ℕ, List, Option};
+ghost use Rattle.std.specs.Prelude.{[]};
+ghost use Rattle.orb_io.specs.Told.{Gives};
 ghost use Rattle.orb_cli.specs.Words.{asked_of};
 ghost use Rattle.orb_cli.specs.Answer.{Ran, HasCauses};
 
@@ -25,8 +26,8 @@ pub fn run<I: Source, O: Sink>(
     input: &mut I,
     output: &mut O,
 ) -> Outcome
-    ensures ran { Ran (asked_of words.now) (I.left input.old) (I.left input.new)
-        (O.put output.old) (O.put output.new) (O.size output.old) (O.size output.new) result }
+    ensures ran { Gives (O.told output.old) (O.told output.new) []
+        (Ran (asked_of words.now) (I.left input.old) (I.left input.new) result) }
     ensures causes { HasCauses (I.faults input.old) (I.faults input.new)
         (O.faults output.old) (O.faults output.new) result }
 {

@@ -4,7 +4,7 @@ use Rattle.std.specs.FinMap as finite
 use Rattle.std.proofs.lemmas.Bool.{false≢true}
 use Rattle.std.proofs.lemmas.List.{append-nil}
 use Rattle.orb_io.specs.Told.{IsPrefix}
-use Rattle.orb_io.proofs.ToldLemmas.{IsPrefix-all, IsPrefix-none, IsPrefix-trans, IsPrefix-behind}
+use Rattle.orb_io.proofs.ToldLemmas.{IsPrefix-all, IsPrefix-none, IsPrefix-trans, IsPrefix-after}
 use Rattle.media_state.specs.Table.{States}
 use Rattle.response_rules.specs.declared.rules.Rule.{Rule}
 use Rattle.body_filter.specs.Exchanges.{Exchange}
@@ -172,7 +172,7 @@ ends_tail s table number _ = IsPrefix-none _
 pub output-ends : (s : Settings) (a : Recording) → IsPrefix (output_of s a false) (output_of s a true)
 unfolding output_of
 output-ends s a =
-    IsPrefix-behind (written_items s finite.empty 0 a.items) _ _ (ends_tail s (table_behind finite.empty a.items) (length a.items) a.tail)
+    IsPrefix-after (written_items s finite.empty 0 a.items) _ _ (ends_tail s (table_behind finite.empty a.items) (length a.items) a.tail)
 
 output-open : (s : Settings) (m more : List ℕ) (a b : Recording) → IsRecording s m a → IsRecording s (m ++ more) b
     → IsPrefix (output_of s a false) (output_of s b false)

@@ -2,7 +2,7 @@
 use Rattle.std.proofs.Common.{◌≡◌, ℕ, Bool, false, List, [], ◌++◌, Option, refl, sym, ap, subst, ◌∙◌, arith}
 use Rattle.std.specs.FinMap as map
 use Rattle.std.proofs.lemmas.List.{append-nil}
-use Rattle.orb_io.proofs.ToldLemmas.{IsPrefix-none}
+use Rattle.orb_io.specs.Told.{IsPrefix}
 use Rattle.response_rules.specs.declared.deciding.Decider.{Decider}
 use Rattle.body_filter.specs.Exchanges as filter
 use Rattle.http_exchange.specs.Reads.{StandsAt}
@@ -17,12 +17,11 @@ use Rattle.orb_engine.specs.declared.settings.Settings.{Settings}
 use Rattle.orb_engine.specs.declared.engine.Engine.{Engine}
 use Rattle.orb_engine.specs.declared.engine.Asked.{Asked}
 use Rattle.orb_engine.specs.declared.engine.Incoming.{Incoming}
-use Rattle.orb_engine.specs.Heads.{Heads, id_of, is_chunked, is_to_end, exchange_of, judged_by}
-use Rattle.orb_engine.specs.Recording.{spell_heads, spell_items}
+use Rattle.orb_engine.specs.Heads.{id_of, is_chunked, is_to_end, judged_by}
+use Rattle.orb_engine.specs.Recording.{spell_items}
 use Rattle.orb_engine.specs.Outputs.{written_items, written_front}
-use Rattle.orb_engine.specs.Writing.{Writes, Breaks as WriterBreaks, WriterReads, box_of}
-use Rattle.orb_engine.specs.Reads.{table_of, Fills, Breaks, HasReadHeads}
-use Rattle.orb_engine.proofs.ClosingLemmas.{gave-more, broke-within}
+use Rattle.orb_engine.specs.Writing.{WriterReads, gathered_by}
+use Rattle.orb_engine.specs.Reads.{Coming, coming_response, coming_written, spell_coming, table_of, Fills, Breaks, HasReadHeads}
 use Rattle.orb_engine.proofs.StepLemmas.{seen-body, breaks-body}
 use Rattle.orb_engine.proofs.PassLemmas.{IsKept, common-kept}
 
@@ -33,69 +32,75 @@ starts (frame.Length n) = (Counted n, (omega arith, refl))
 starts frame.Chunked = (Chunks (Size 0 0), (refl, refl, refl))
 starts frame.ToEnd = (Rest, refl)
 
--- the heads that have been read
-abbrev pub heads_of : (asked : Asked) (d : Decider) (f : BodyFrame) (e : Engine) (s : Settings) (m given : List ℕ)
-    → HasReadHeads asked d f e s m given → Heads
-heads_of asked d f e s m given q = record { request = q.whole.request; response = q.response }
-
--- the response, as the writer has it
-pub same-exchange : (asked : Asked) (d : Decider) (f : BodyFrame) (e : Engine) (s : Settings) (m given : List ℕ)
-    (q : HasReadHeads asked d f e s m given) (text : List ℕ) (chunked : Bool) → text ≡ e.head → chunked ≡ is_chunked f
-    → filter.exchange_of (judged_by s (table_of q.whole.items) (heads_of asked d f e s m given q)) text chunked
-    ≡ exchange_of s (table_of q.whole.items) (heads_of asked d f e s m given q)
-same-exchange asked d f e s m given q text chunked text_is chunked_is =
-    rw (text_is ∙ q.whole.buffer ∙ sym q.bytes, chunked_is ∙ ap is_chunked q.frame_is) refl
-
-spelled : (asked : Asked) (d : Decider) (f : BodyFrame) (e : Engine) (s : Settings) (m given : List ℕ)
-    (q : HasReadHeads asked d f e s m given)
-    → m ≡ spell_items q.whole.items (spell_heads (heads_of asked d f e s m given q) [])
-spelled asked d f e s m given q =
-    q.whole.spells ∙ ap (λ t. spell_items q.whole.items (q.whole.request.bytes ++ t)) (sym (append-nil _ ∙ q.bytes))
-
-pub begun-fills : (incoming : Incoming) (asked : Asked) (d : Decider) (f : BodyFrame) (e e' : Engine) (s : Settings) (a b : Option (List ℕ))
-    (k n : Option ℕ) (m given more : List ℕ) (q : HasReadHeads asked d f e s m given) → IsKept e e'
-    → (w : Writes (box_of e.writer) (box_of e'.writer) a b k n more)
-    → more ≡ written_front s.job (exchange_of s (table_of q.whole.items) (heads_of asked d f e s m given q)) []
-    → WriterReads e'.writer s (exchange_of s (table_of q.whole.items) (heads_of asked d f e s m given q)) []
-    → UnframerHasRead incoming.unframer f [] [] → incoming.to_end ≡ is_to_end f → incoming.id ≡ id_of asked.asks
-    → incoming.place ≡ asked.place
-    → Fills incoming e' s m (given ++ w.pushed)
-begun-fills incoming asked d f e e' s a b k n m given more q kept w is reads unframer to_end id place = record {
+-- the exchange whose heads have been read
+abbrev pub begun : (asked : Asked) (read : Decider × BodyFrame) (e : Engine) (s : Settings) (m given : List ℕ)
+    → HasReadHeads asked read e s m given → Coming
+begun asked read e s m given q = record {
   items = q.whole.items;
-  heads = heads_of asked d f e s m given q;
+  heads = record { request = q.whole.request; response = q.response };
   sent = [];
   body = [];
-  spells = spelled asked d f e s m given q;
-  whole = q.whole.whole;
-  good = record { request = q.whole.good; response = q.good };
-  front = front_read incoming.unframer q.response.frame [] [] (subst (λ (g : BodyFrame). StandsAt incoming.unframer g [] []) q.frame_is unframer.stands);
-  gave = gave-more given (box_of e.writer).bytes w.pushed (box_of e'.writer).bytes (written_items s map.empty 0 q.whole.items)
-      [] more _ (q.whole.gave ∙ sym (append-nil _)) w.sum is;
-  taken = kept.taken ∙ q.whole.taken;
-  common = common-kept e e' s q.whole.items given w.pushed kept q.whole.common;
-  receives = record {
-    unframer = record { stands = subst (λ (g : BodyFrame). StandsAt incoming.unframer g [] []) q.frame_is unframer.stands };
-    writer = reads;
-    media = kept.media ∙ q.whole.media;
-    id = id ∙ ap id_of q.whole.asks;
-    to_end = to_end ∙ ap is_to_end q.frame_is;
-    place = place ∙ q.whole.place;
-  };
 }
 
-pub begun-breaks : (asked : Asked) (d : Decider) (f : BodyFrame) (e e' : Engine) (s : Settings) (a b : Option (List ℕ))
-    (k n : Option ℕ) (m given : List ℕ) (q : HasReadHeads asked d f e s m given) → IsKept e e'
-    → (y : filter.Exchange) → y ≡ exchange_of s (table_of q.whole.items) (heads_of asked d f e s m given q)
-    → WriterBreaks (box_of e.writer) a b k n [] (written_front s.job y [])
-    → Breaks e' s a b k n m given false
-begun-breaks asked d f e e' s a b k n m given q kept y y_is broke =
-    let broken = subst (λ (z : filter.Exchange). WriterBreaks (box_of e.writer) a b k n [] (written_front s.job z [])) y_is broke in
-    let h = heads_of asked d f e s m given q in
-    let x = exchange_of s (table_of q.whole.items) h in
-    let all = written_items s map.empty 0 q.whole.items in
+-- its response, as the writer has it
+pub same-exchange : (asked : Asked) (read : Decider × BodyFrame) (e : Engine) (s : Settings) (m given : List ℕ)
+    (q : HasReadHeads asked read e s m given) (text : List ℕ) (chunked : Bool) → text ≡ e.head → chunked ≡ is_chunked read.1
+    → filter.exchange_of (judged_by s (table_of q.whole.items) (begun asked read e s m given q).heads) text chunked
+    ≡ coming_response s (begun asked read e s m given q)
+same-exchange asked read e s m given q text chunked text_is chunked_is =
+    rw (text_is ∙ q.whole.buffer ∙ sym q.bytes, chunked_is ∙ ap is_chunked q.frame_is) refl
+
+spelled : (asked : Asked) (read : Decider × BodyFrame) (e : Engine) (s : Settings) (m given : List ℕ)
+    (q : HasReadHeads asked read e s m given) → m ≡ spell_coming (begun asked read e s m given q)
+spelled asked read e s m given q =
+    q.whole.spells ∙ ap (λ t. spell_items q.whole.items (q.whole.request.bytes ++ t)) (sym (append-nil _ ∙ q.bytes))
+
+-- what is owed of it, after what was given and gathered
+owed : (asked : Asked) (read : Decider × BodyFrame) (e : Engine) (s : Settings) (m given : List ℕ)
+    (q : HasReadHeads asked read e s m given) (y : filter.Exchange) → y ≡ coming_response s (begun asked read e s m given q)
+    → (given ++ gathered_by e.writer) ++ written_front s.job y [] ≡ coming_written s (begun asked read e s m given q)
+owed asked read e s m given q y is =
+    ap (λ t. t ++ written_front s.job y []) q.whole.gave
+    ∙ ap (λ (z : filter.Exchange). written_items s map.empty 0 q.whole.items ++ written_front s.job z []) is
+
+pub begun-fills : (incoming : Incoming) (asked : Asked) (read : Decider × BodyFrame) (e e' : Engine) (s : Settings) (m given more : List ℕ)
+    (q : HasReadHeads asked read e s m given) (y : filter.Exchange) → IsKept e e'
+    → y ≡ coming_response s (begun asked read e s m given q)
+    → (given ++ more) ++ gathered_by e'.writer ≡ (given ++ gathered_by e.writer) ++ written_front s.job y []
+    → WriterReads e'.writer s y []
+    → UnframerHasRead incoming.unframer read.1 [] [] → incoming.to_end ≡ is_to_end read.1 → incoming.id ≡ id_of asked.asks
+    → incoming.place ≡ asked.place
+    → Fills incoming e' s m (given ++ more)
+begun-fills incoming asked read e e' s m given more q y kept is gave reads unframer to_end id place =
+    let stands = subst (λ (g : BodyFrame). StandsAt incoming.unframer g [] []) q.frame_is unframer.stands in
+    record {
+      coming = begun asked read e s m given q;
+      spells = spelled asked read e s m given q;
+      whole = q.whole.whole;
+      good = record { request = q.whole.good; response = q.good };
+      front = front_read incoming.unframer q.response.frame [] [] stands;
+      gave = gave ∙ owed asked read e s m given q y is;
+      taken = kept.taken ∙ q.whole.taken;
+      common = common-kept e e' s q.whole.items given more kept q.whole.common;
+      receives = record {
+        unframer = record { stands = stands };
+        writer = subst (λ (z : filter.Exchange). WriterReads e'.writer s z []) is reads;
+        media = kept.media ∙ q.whole.media;
+        id = id ∙ ap id_of q.whole.asks;
+        to_end = to_end ∙ ap is_to_end q.frame_is;
+        place = place ∙ q.whole.place;
+      };
+    }
+
+pub begun-breaks : (asked : Asked) (read : Decider × BodyFrame) (e e' : Engine) (s : Settings) (m given more : List ℕ)
+    (q : HasReadHeads asked read e s m given) (y : filter.Exchange) → IsKept e e'
+    → y ≡ coming_response s (begun asked read e s m given q)
+    → IsPrefix (given ++ more) ((given ++ gathered_by e.writer) ++ written_front s.job y [])
+    → Breaks e' s m false (given ++ more)
+begun-breaks asked read e e' s m given more q y kept is within =
+    let c = begun asked read e s m given q in
     let (u, stands) = starts q.response.frame in
-    breaks-body e' s a b k n m given broken.pushed q.whole.items _ broken.gained (rw kept.told q.whole.common.told)
-    (broke-within given (box_of e.writer).bytes broken.pushed all [] (written_front s.job x []) (q.whole.gave ∙ sym (append-nil _))
-    (IsPrefix-none _) broken.within)
-    (seen-body s m q.whole.items h [] [] u (spelled asked d f e s m given q) q.whole.whole
+    breaks-body e' s m given more q.whole.items _ (rw kept.told q.whole.common.told)
+    (subst (λ (t : List ℕ). IsPrefix (given ++ more) t) (owed asked read e s m given q y is) within)
+    (seen-body s m q.whole.items c.heads [] [] u (spelled asked read e s m given q) q.whole.whole
     (record { request = q.whole.good; response = q.good }) (front_read u q.response.frame [] [] stands) (record { stands = stands }))

@@ -3,7 +3,6 @@ use Rattle.std.proofs.Common.{◌≡◌, ℕ, ◌+◌, ◌<◌, ◌≤◌, false
 use Rattle.std.specs.FinMap as map
 use Rattle.std.proofs.lemmas.List.{append-nil, take-append-drop, length-take-le, take_more}
 use Rattle.std.proofs.Math.Seq.{drop-cons}
-use Rattle.orb_io.specs.Told.{Gains}
 use Rattle.http_exchange.specs.Frames.{IsFront}
 use Rattle.http_exchange.specs.Reads.{Gets, Refuses}
 use Rattle.http_exchange.specs.declared.unframing.Unframer.{Unframer}
@@ -16,13 +15,13 @@ use Rattle.orb_engine.specs.declared.engine.Stage.TheVariants as stage
 use Rattle.orb_engine.specs.declared.outcome.EngineOutcome.TheVariants as outcome
 use Rattle.orb_engine.specs.Heads.{Heads, exchange_of}
 use Rattle.orb_engine.specs.Recording as cut
-use Rattle.orb_engine.specs.Recording.{Item, Tail, Recording, IsRecording, IsTail, IsSending, spell_heads, spell_items, spell_tail}
+use Rattle.orb_engine.specs.Recording.{Item, Tail, IsTail, IsSending, spell_heads, spell_items, spell_tail}
 use Rattle.orb_engine.specs.Ends as ends
-use Rattle.orb_engine.specs.Ends.{stop_of, response_place}
+use Rattle.orb_engine.specs.Ends.{stop_of}
 use Rattle.orb_engine.specs.Outputs.{output_of, written_items, written_front}
 use Rattle.orb_engine.specs.Counts.{rules_of, rules_of_items}
-use Rattle.orb_engine.specs.Writing.{box_of}
-use Rattle.orb_engine.specs.Reads.{open_cut, table_of, counts_of, IsTold, Common, Receives, Sends, Stands, Reads, Stops, Passes}
+use Rattle.orb_engine.specs.Writing.{gathered_by}
+use Rattle.orb_engine.specs.Reads.{Coming, coming_written, spell_coming, open_cut, table_of, counts_of, Common, Receives, Sends, Stands, Reads, Stops, Passes}
 use Rattle.orb_engine.proofs.CutLemmas.{spell_items-append, spell_items-length}
 use Rattle.orb_engine.proofs.FillLemmas.{output-sending}
 
@@ -32,28 +31,21 @@ sends-at t incoming e s items tail is h = subst (λ (u : Stage). Stands u e s it
 
 -- an engine in a body
 pub record HasOpenBody (incoming : Incoming) (e : Engine) (s : Settings) (m given : List ℕ) : Type 0 where
-  pub items : List Item
-  pub heads : Heads
-  pub sent : List ℕ
-  pub body : List ℕ
-  pub spells : m ≡ spell_items items (spell_heads heads sent)
-  pub whole : cut.AreItems s map.empty items
-  pub sending : IsSending s (table_of items) heads sent body
-  pub gave : given ++ (box_of e.writer).bytes
-      ≡ written_items s map.empty 0 items ++ written_front s.job (exchange_of s (table_of items) heads) body
+  pub coming : Coming
+  pub spells : m ≡ spell_coming coming
+  pub whole : cut.AreItems s map.empty coming.items
+  pub sending : IsSending s (table_of coming.items) coming.heads coming.sent coming.body
+  pub gave : given ++ gathered_by e.writer ≡ coming_written s coming
   pub taken : e.taken ≡ length m
-  pub common : Common e s items given
-  pub receives : Receives incoming e s items heads sent body
+  pub common : Common e s coming.items given
+  pub receives : Receives incoming e s coming
 
 pub open-body : (incoming : Incoming) (e : Engine) (s : Settings) (m given : List ℕ) → Reads e s m given → e.stage ≡ stage.Sending incoming
     → HasOpenBody incoming e s m given
 open-body incoming e s m given r is =
     let a = sends-at e.stage incoming e s r.items r.tail is r.stands in
     record {
-      items = r.items;
-      heads = a.heads;
-      sent = a.sent;
-      body = a.body;
+      coming = record { items = r.items; heads = a.heads; sent = a.sent; body = a.body };
       spells = r.cut.spells ∙ ap (λ t. spell_items r.items (spell_tail t [])) a.is ∙ ap (λ x. spell_items r.items (spell_heads a.heads x)) (append-nil a.sent);
       whole = r.cut.items;
       sending = subst (λ (t : Tail). IsTail s (table_of r.items) t) a.is r.cut.tail;
@@ -81,34 +73,33 @@ spell-more items h sent x =
 -- the unframer took the first bytes of a piece
 pub body-got : (incoming incoming' : Incoming) (e e' : Engine) (s : Settings) (m given piece body : List ℕ) (used : ℕ)
     (h : HasOpenBody incoming e s m given) → IsSameBody e e'
-    → Gets incoming'.unframer h.heads.response.frame h.sent h.body piece body used
+    → Gets incoming'.unframer h.coming.heads.response.frame h.coming.sent h.coming.body piece body used
     → incoming'.to_end ≡ incoming.to_end → incoming'.id ≡ incoming.id → incoming'.place ≡ incoming.place
     → e'.taken ≡ e.taken + used
-    → Passes incoming' e' s (m ++ take used piece) given body
-body-got incoming incoming' e e' s m given piece body used h same gets to_end id place taken = record {
-  items = h.items;
-  heads = h.heads;
-  sent = h.sent ++ take used piece;
-  body = h.body;
-  spells = ap (λ x. x ++ take used piece) h.spells ∙ spell-more h.items h.heads h.sent (take used piece);
-  whole = h.whole;
-  good = h.sending.heads;
-  front = gets.front;
-  gave = ap (λ w. given ++ (box_of w).bytes) same.writer ∙ h.gave;
-  taken = omega (arith, taken, h.taken, length-append m (take used piece), length-take-le used piece gets.within);
-  common = record {
-    settings = ap (λ w. w.settings) same.writer ∙ h.common.settings;
-    place = same.place ∙ h.common.place;
-    counts = same.counts ∙ h.common.counts;
-    told = rw same.told h.common.told;
-  };
-  unframer = gets.reads;
-  writer = rw same.writer h.receives.writer;
-  media = same.media ∙ h.receives.media;
-  id = id ∙ h.receives.id;
-  to_end = to_end ∙ h.receives.to_end;
-  place = place ∙ h.receives.place;
-}
+    → Passes incoming' e' s (m ++ take used piece) body given
+body-got incoming incoming' e e' s m given piece body used h same gets to_end id place taken =
+    let c = h.coming in
+    record {
+      coming = record { items = c.items; heads = c.heads; sent = c.sent ++ take used piece; body = c.body };
+      spells = ap (λ x. x ++ take used piece) h.spells ∙ spell-more c.items c.heads c.sent (take used piece);
+      whole = h.whole;
+      good = h.sending.heads;
+      front = gets.front;
+      gave = ap (λ w. given ++ gathered_by w) same.writer ∙ h.gave;
+      taken = omega (arith, taken, h.taken, length-append m (take used piece), length-take-le used piece gets.within);
+      common = record {
+        settings = ap (λ w. w.settings) same.writer ∙ h.common.settings;
+        place = same.place ∙ h.common.place;
+        counts = same.counts ∙ h.common.counts;
+        told = rw same.told h.common.told;
+      };
+      unframer = gets.reads;
+      writer = rw same.writer h.receives.writer;
+      media = same.media ∙ h.receives.media;
+      id = id ∙ h.receives.id;
+      to_end = to_end ∙ h.receives.to_end;
+      place = place ∙ h.receives.place;
+    }
 
 split-at : (piece : List ℕ) (at : ℕ) → at < length piece
     → (take at piece ++ (get_or piece at 0 ∷ drop (at + 1) piece) ≡ piece)
@@ -130,27 +121,25 @@ unfolding rules_of
 rules-bad s items h sent body b more = append-nil _
 
 -- the unframer refused a byte of the piece
-pub body-bad : (incoming : Incoming) (u : Unframer) (e e' : Engine) (s : Settings) (a : Option (List ℕ)) (k : Option ℕ)
-    (m given piece : List ℕ) (at : ℕ) (h : HasOpenBody incoming e s m given) → IsSameBody e e'
-    → Refuses u h.heads.response.frame h.sent h.body piece at → Gains a a k k []
-    → Stops e' s a a k k (m ++ piece) given false (outcome.Bad BadChunk (e.taken + at))
+pub body-bad : (incoming : Incoming) (u : Unframer) (e e' : Engine) (s : Settings) (m given piece : List ℕ) (at : ℕ)
+    (h : HasOpenBody incoming e s m given) → IsSameBody e e'
+    → Refuses u h.coming.heads.response.frame h.coming.sent h.coming.body piece at
+    → Stops (outcome.Bad BadChunk (e.taken + at)) e' s (m ++ piece) false given
 unfolding stop_of
-body-bad incoming u e e' s a k m given piece at h same refuses none =
+body-bad incoming u e e' s m given piece at h same refuses =
+    let c = h.coming in
     let b = get_or piece at 0 in
     let (whole, next) = split-at piece at refuses.bad.within in
-    let sent = h.sent ++ take at piece in
-    let r : Recording = record { items = h.items; tail = cut.BadBody h.heads sent h.body b; more = drop (at + 1) piece } in
-    let size = spell_items-length h.items (spell_heads h.heads h.sent) in
-    let heads : length (spell_heads h.heads h.sent) ≡ length h.heads.request.bytes + (length h.heads.response.bytes + length h.sent) =
+    let sent = c.sent ++ take at piece in
+    let size = spell_items-length c.items (spell_heads c.heads c.sent) in
+    let heads : length (spell_heads c.heads c.sent) ≡ length c.heads.request.bytes + (length c.heads.response.bytes + length c.sent) =
     simp length-append in
     record {
-      pushed = [];
-      gained = none;
-      recording = r;
+      recording = record { items = c.items; tail = cut.BadBody c.heads sent c.body b; more = drop (at + 1) piece };
       cut = record {
-        spells = ap (λ x. x ++ piece) h.spells ∙ spell-more h.items h.heads h.sent piece
-            ∙ ap (λ x. spell_items h.items (spell_heads h.heads x))
-            (ap (λ x. h.sent ++ x) (sym whole) ∙ sym (append_assoc h.sent (take at piece) (b ∷ drop (at + 1) piece)));
+        spells = ap (λ x. x ++ piece) h.spells ∙ spell-more c.items c.heads c.sent piece
+            ∙ ap (λ x. spell_items c.items (spell_heads c.heads x))
+            (ap (λ x. c.sent ++ x) (sym whole) ∙ sym (append_assoc c.sent (take at piece) (b ∷ drop (at + 1) piece)));
         items = h.whole;
         tail = record {
           sending = record {
@@ -160,17 +149,16 @@ body-bad incoming u e e' s a k m given piece at h same refuses none =
             undecided = h.sending.undecided;
           };
           chunked = refuses.chunked;
-          bad = λ g front. refuses.bad.bad g (subst (λ (x : List ℕ). IsFront h.heads.response.frame x g)
-              (append_assoc h.sent (take at piece) (b ∷ []) ∙ ap (λ x. h.sent ++ x) (sym next)) front);
+          bad = λ g front. refuses.bad.bad g (subst (λ (x : List ℕ). IsFront c.heads.response.frame x g)
+              (append_assoc c.sent (take at piece) (b ∷ []) ∙ ap (λ x. c.sent ++ x) (sym next)) front);
         };
         last = λ never. absurd (cc never);
       };
       stop = ap (λ p. ends.Bad BadChunk p)
-          (omega (arith, h.taken, ap length h.spells, size, heads, length-append h.sent (take at piece), length-take-le at piece (omega (arith, refuses.bad.within))));
-      gave = ap (λ x. x ++ (box_of e'.writer).bytes) (append-nil given) ∙ ap (λ w. given ++ (box_of w).bytes) same.writer ∙ h.gave
-          ∙ sym (output-bad s h.items h.heads sent h.body b (drop (at + 1) piece));
-      counts = same.counts ∙ h.common.counts ∙ ap counts_of (sym (rules-bad s h.items h.heads sent h.body b (drop (at + 1) piece)));
-      told = subst (λ (x : List ℕ). IsTold e'.told s h.items x) (sym (append-nil given)) (rw same.told h.common.told);
+          (omega (arith, h.taken, ap length h.spells, size, heads, length-append c.sent (take at piece), length-take-le at piece (omega (arith, refuses.bad.within))));
+      gave = ap (λ w. given ++ gathered_by w) same.writer ∙ h.gave ∙ sym (output-bad s c.items c.heads sent c.body b (drop (at + 1) piece));
+      counts = same.counts ∙ h.common.counts ∙ ap counts_of (sym (rules-bad s c.items c.heads sent c.body b (drop (at + 1) piece)));
+      told = rw same.told h.common.told;
     }
 
 pub not-zero : (n : ℕ) → (n ≡ 0 → ⊥) → 1 ≤ n

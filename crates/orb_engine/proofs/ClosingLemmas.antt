@@ -3,7 +3,7 @@ use Rattle.std.proofs.Common.{◌≡◌, ◌⊎◌, ℕ, cond, ◌+◌, Bool, tr
 use Rattle.std.specs.Prelude.{is_some}
 use Rattle.std.specs.FinMap as map
 use Rattle.orb_io.specs.Told.{IsPrefix}
-use Rattle.orb_io.proofs.ToldLemmas.{IsPrefix-append, IsPrefix-trans, IsPrefix-behind}
+use Rattle.orb_io.proofs.ToldLemmas.{IsPrefix-append, IsPrefix-trans}
 use Rattle.media_state.specs.Table.{States, admitted}
 use Rattle.std.proofs.lemmas.Cmp.{nat_cmp_total, eq_by_cmp_equiv}
 use Rattle.media_state.specs.declared.states.MediaState.{MediaState}
@@ -15,12 +15,12 @@ use Rattle.std.proofs.lemmas.List.{append-nil}
 use Rattle.body_filter.specs.Exchanges.{Exchange}
 use Rattle.orb_engine.specs.declared.settings.Job.{Job}
 use Rattle.orb_engine.proofs.OutputLaws.{written_front-whole}
-use Rattle.orb_engine.specs.Heads.{Heads, admits, keeps}
+use Rattle.orb_engine.specs.Heads.{admits, keeps}
 use Rattle.orb_engine.specs.Media.{IsKept, stored}
 use Rattle.orb_engine.specs.Recording.{Item}
 use Rattle.orb_engine.specs.Outputs.{written_front, written_whole}
 use Rattle.orb_engine.specs.Counts.{rules_of_items}
-use Rattle.orb_engine.specs.Reads.{IsTold, counts_of}
+use Rattle.orb_engine.specs.Reads.{Coming, IsTold, counts_of}
 use Rattle.orb_engine.specs.declared.engine.Engine.{Engine}
 use Rattle.orb_engine.specs.declared.outcome.EngineOutcome.{EngineOutcome}
 use Rattle.orb_engine.specs.declared.outcome.EngineOutcome.TheVariants as outcome
@@ -47,26 +47,6 @@ pub number-is : (c : Counts) (items : List Item) → c ≡ counts_of (rules_of_i
 number-is c items is =
     omega (arith, ap (λ (d : Counts). d.allowed) is, ap (λ (d : Counts). d.blocked) is, count-sum (rules_of_items items), rules-length items)
 
--- what was pushed and what is gathered, behind one more output
-pub gave-more : (given box pushed box' all before more owed : List ℕ) → given ++ box ≡ all ++ before
-    → box ++ more ≡ pushed ++ box' → before ++ more ≡ owed → (given ++ pushed) ++ box' ≡ all ++ owed
-gave-more given box pushed box' all before more owed gave sum is =
-    append_assoc given pushed box' ∙ ap (λ t. given ++ t) (sym sum) ∙ sym (append_assoc given box more)
-    ∙ ap (λ t. t ++ more) gave ∙ append_assoc all before more ∙ ap (λ t. all ++ t) is
-
--- what was pushed before a fault
-pub broke-within : (given box pushed all before owed : List ℕ) → given ++ box ≡ all ++ before → IsPrefix before owed
-    → IsPrefix pushed box ⊎ ((more : List ℕ) × IsPrefix pushed (box ++ more) × IsPrefix (before ++ more) owed)
-    → IsPrefix (given ++ pushed) (all ++ owed)
-broke-within given box pushed all before owed gave grows (inl front) =
-    IsPrefix-trans (given ++ pushed) (given ++ box) (all ++ owed) (IsPrefix-behind given pushed box front)
-    (subst (λ (t : List ℕ). IsPrefix t (all ++ owed)) (sym gave) (IsPrefix-behind all before owed grows))
-broke-within given box pushed all before owed gave grows (inr (more, front, within)) =
-    let same : given ++ (box ++ more) ≡ all ++ (before ++ more) =
-    sym (append_assoc given box more) ∙ ap (λ t. t ++ more) gave ∙ append_assoc all before more in
-    IsPrefix-trans (given ++ pushed) (given ++ (box ++ more)) (all ++ owed) (IsPrefix-behind given pushed (box ++ more) front)
-    (subst (λ (t : List ℕ). IsPrefix t (all ++ owed)) (sym same) (IsPrefix-behind all (before ++ more) owed within))
-
 -- what was told stays told
 pub told-more : (c : Counts) (s : Settings) (items : List Item) (given pushed : List ℕ) → IsTold c s items given
     → IsTold c s items (given ++ pushed)
@@ -86,19 +66,18 @@ the-rule None is = absurd (cc is)
 the-rule (Some r) is = (r, refl)
 
 -- the same answer, of an exchange that may be undecided
-pub as_closes : (r : Result (Unit {0}) EngineOutcome) (place : ℕ) (e e' : Engine) (s : Settings) (a b : Option (List ℕ))
-    (k n : Option ℕ) (items : List Item) (h : Heads) (body given : List ℕ)
-    → ClosesDecided r e' s a b k n items h body given → Closes r place e e' s a b k n items h body given
-as_closes (Ok done) place e e' s a b k n items h body given closed = closed
-as_closes (Err outcome.WriteFault) place e e' s a b k n items h body given falls = falls
-as_closes (Err outcome.Done) place e e' s a b k n items h body given never = absurd never
-as_closes (Err (outcome.Bad kind at)) place e e' s a b k n items h body given never = absurd never
-as_closes (Err (outcome.Cut at)) place e e' s a b k n items h body given never = absurd never
-as_closes (Err (outcome.HeadLimit at)) place e e' s a b k n items h body given never = absurd never
-as_closes (Err (outcome.MediaFull at)) place e e' s a b k n items h body given never = absurd never
-as_closes (Err (outcome.NotBuilt at)) place e e' s a b k n items h body given never = absurd never
-as_closes (Err outcome.Endless) place e e' s a b k n items h body given never = absurd never
-as_closes (Err outcome.ReadFault) place e e' s a b k n items h body given never = absurd never
+pub as_closes : (r : Result (Unit {0}) EngineOutcome) (place : ℕ) (e : Engine) (s : Settings) (c : Coming) (given : List ℕ)
+    → ClosesDecided r e s c given → Closes r place e s c given
+as_closes (Ok done) place e s c given closed = closed
+as_closes (Err outcome.WriteFault) place e s c given falls = falls
+as_closes (Err outcome.Done) place e s c given never = absurd never
+as_closes (Err (outcome.Bad kind at)) place e s c given never = absurd never
+as_closes (Err (outcome.Cut at)) place e s c given never = absurd never
+as_closes (Err (outcome.HeadLimit at)) place e s c given never = absurd never
+as_closes (Err (outcome.MediaFull at)) place e s c given never = absurd never
+as_closes (Err (outcome.NotBuilt at)) place e s c given never = absurd never
+as_closes (Err outcome.Endless) place e s c given never = absurd never
+as_closes (Err outcome.ReadFault) place e s c given never = absurd never
 
 pub front-in-whole : (job : Job) (number : ℕ) (x : Exchange) (m : List ℕ) → IsPrefix (written_front job x m) (written_whole job number x m)
 front-in-whole job number x m =

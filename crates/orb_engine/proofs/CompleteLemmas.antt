@@ -2,7 +2,7 @@
 use Rattle.std.proofs.Common.{◌≡◌, ℕ, ◌<◌, ◌≤◌, Bool, true, false, List, [], ◌∷◌, ◌++◌, length, Option, None, Some, refl, sym, ap, ◌∙◌, subst, arith}
 use Rattle.std.specs.FinMap as finite
 use Rattle.std.proofs.lemmas.List.{append-nil, length-append}
-use Rattle.orb_io.specs.Told.{Gains, Rose}
+use Rattle.orb_io.specs.Told.{Rose}
 use Rattle.media_state.specs.Table.{States}
 use Rattle.orb_engine.specs.declared.settings.Settings.{Settings}
 use Rattle.orb_engine.specs.declared.engine.Engine.{Engine}
@@ -51,41 +51,34 @@ whole_is_not_endless s bytes read rest r whole lost more =
     omega (arith, length-append read rest)
 
 -- an end that is not open is that of the whole recording
-ends_all : (e : Engine) (s : Settings) (bytes read rest : List ℕ) (r : Recording) (ended : Bool)
-    (put put' : Option (List ℕ)) (size size' : Option ℕ) (P : End → Type 0)
+ends_all : (e : Engine) (s : Settings) (bytes read rest : List ℕ) (r : Recording) (ended : Bool) (P : End → Type 0) (given : List ℕ)
     → IsWholeRecording s bytes r → bytes ≡ read ++ rest → (ended ≡ true → rest ≡ [])
-    → (h : Ends e s put put' size size' read [] ended P) → (P ends.Open → ⊥) → IsAll s r h.recording ended rest
-ends_all e s bytes read rest r ended put put' size size' P whole lost all h closed =
+    → (h : Ends e s read ended P given) → (P ends.Open → ⊥) → IsAll s r h.recording ended rest
+ends_all e s bytes read rest r ended P given whole lost all h closed =
     front_is_all s read rest r h.recording ended (subst (λ l. IsWholeRecording s l r) lost whole) h.cut all
     (λ o. closed (subst P o h.stop))
 
 -- nor is it another end
-ends_no_other : (e : Engine) (s : Settings) (bytes read rest : List ℕ) (r : Recording) (ended : Bool)
-    (put put' : Option (List ℕ)) (size size' : Option ℕ) (P : End → Type 0)
+ends_no_other : (e : Engine) (s : Settings) (bytes read rest : List ℕ) (r : Recording) (ended : Bool) (P : End → Type 0) (given : List ℕ)
     → IsWholeRecording s bytes r → bytes ≡ read ++ rest → (ended ≡ true → rest ≡ [])
-    → Ends e s put put' size size' read [] ended P → (P ends.Open → ⊥) → (P ends.Done → ⊥) → ⊥
-ends_no_other e s bytes read rest r ended put put' size size' P whole lost all h closed other =
-    let a = ends_all e s bytes read rest r ended put put' size size' P whole lost all h closed in
+    → Ends e s read ended P given → (P ends.Open → ⊥) → (P ends.Done → ⊥) → ⊥
+ends_no_other e s bytes read rest r ended P given whole lost all h closed other =
+    let a = ends_all e s bytes read rest r ended P given whole lost all h closed in
     other (subst P a.stop h.stop)
 
 pub run_is_complete : (o : EngineOutcome) (e : Engine) (s : Settings) (bytes : List ℕ) (r : Recording)
-    (left' put put' : Option (List ℕ)) (size size' : Option ℕ) (source source' sink sink' : ℕ)
-    → IsWholeRecording s bytes r → Ran o e s (Some bytes) left' put put' size size'
+    (left' : Option (List ℕ)) (given : List ℕ) (source source' sink sink' : ℕ)
+    → IsWholeRecording s bytes r → Ran o e s (Some bytes) left' given
     → RunCauses o source source' sink sink' → ¬ (Rose source source') → ¬ (Rose sink sink')
-    → IsComplete o s r left' put put' size size'
-run_is_complete o e s bytes r None put put' size size' m m' n n' whole ran causes calm calm' = absurd ran.lost
-run_is_complete Done e s bytes r (Some rest) put put' size size' m m' n n' whole ran causes calm calm' =
+    → IsComplete o s r left' given
+run_is_complete o e s bytes r None given m m' n n' whole ran causes calm calm' = absurd ran.lost
+run_is_complete Done e s bytes r (Some rest) given m m' n n' whole ran causes calm calm' =
     let h = ran.answers in
-    let all = ends_all e s bytes ran.read rest r ran.ended put put' size size' (IsStop Done) whole ran.lost ran.at_end h (λ o. cc) in
-    record {
-      done = refl;
-      left = ap Some all.none_left;
-      wrote = subst (λ l. Gains put put' size size' l) (h.gave ∙ all.output) h.gained;
-    }
-run_is_complete Endless e s bytes r (Some rest) put put' size size' m m' n n' whole ran causes calm calm' =
+    let all = ends_all e s bytes ran.read rest r ran.ended (IsStop Done) given whole ran.lost ran.at_end h (λ o. cc) in
+    record { done = refl; left = ap Some all.none_left; wrote = h.gave ∙ all.output }
+run_is_complete Endless e s bytes r (Some rest) given m m' n n' whole ran causes calm calm' =
     absurd (whole_is_not_endless s bytes ran.read rest r whole ran.lost ran.answers.0)
-run_is_complete ReadFault e s bytes r (Some rest) put put' size size' m m' n n' whole ran causes calm calm' = absurd (calm causes.0)
-run_is_complete WriteFault e s bytes r (Some rest) put put' size size' m m' n n' whole ran causes calm calm' = absurd (calm' causes.1)
-run_is_complete o e s bytes r (Some rest) put put' size size' m m' n n' whole ran causes calm calm' =
-    absurd (ends_no_other e s bytes ran.read rest r ran.ended put put' size size' (IsStop o) whole ran.lost ran.at_end ran.answers
-    (λ x. cc) (λ x. cc))
+run_is_complete ReadFault e s bytes r (Some rest) given m m' n n' whole ran causes calm calm' = absurd (calm causes.0)
+run_is_complete WriteFault e s bytes r (Some rest) given m m' n n' whole ran causes calm calm' = absurd (calm' causes.1)
+run_is_complete o e s bytes r (Some rest) given m m' n n' whole ran causes calm calm' =
+    absurd (ends_no_other e s bytes ran.read rest r ran.ended (IsStop o) given whole ran.lost ran.at_end ran.answers (λ x. cc) (λ x. cc))

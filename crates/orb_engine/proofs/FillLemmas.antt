@@ -2,7 +2,7 @@
 use Rattle.std.proofs.Common.{◌≡◌, ℕ, ◌+◌, ◌^◌, ◌<◌, ◌≤◌, Bool, false, List, [], ◌∷◌, ◌++◌, length, Option, None, Some, Result, Ok, Err, refl, sym, ap, subst, ◌∙◌, inr, arith, lit<, append_assoc, length-append}
 use Rattle.std.specs.FinMap as map
 use Rattle.std.proofs.lemmas.List.{append-nil}
-use Rattle.orb_io.specs.Told.{Gains, IsPrefix}
+use Rattle.orb_io.specs.Told.{IsPrefix}
 use Rattle.response_rules.specs.declared.rules.Rule.{Rule}
 use Rattle.response_rules.specs.Tables.{window_rule_of}
 use Rattle.response_rules.specs.Settled.{is_in_text}
@@ -20,13 +20,13 @@ use Rattle.orb_engine.specs.declared.outcome.EngineOutcome.TheVariants as outcom
 use Rattle.orb_engine.specs.Texts.{head_limit, IsOpenHead}
 use Rattle.orb_engine.specs.Heads.{Heads, exchange_of, judged_by}
 use Rattle.orb_engine.specs.Recording as cut
-use Rattle.orb_engine.specs.Recording.{Item, Recording, IsItem, AreItems, IsTail, IsRecording, spell_heads, spell_item, spell_items, spell_tail, table_behind}
+use Rattle.orb_engine.specs.Recording.{Item, Recording, AreItems, IsTail, IsRecording, spell_heads, spell_items}
 use Rattle.orb_engine.specs.Ends.{NotBuilt, stop_of}
 use Rattle.orb_engine.specs.Outputs.{output_of, written_items, written_front, written_whole}
 use Rattle.orb_engine.specs.Counts.{rules_of, rules_of_items}
-use Rattle.orb_engine.specs.Writing.{box_of}
-use Rattle.orb_engine.specs.Reads.{open_cut, table_of, counts_of, IsTold, Stands, Reads, Fills, FillsAt, Stops, Goes, Settles}
-use Rattle.orb_engine.specs.Closing.{Closes, all_written}
+use Rattle.orb_engine.specs.Writing.{gathered_by}
+use Rattle.orb_engine.specs.Reads.{Coming, coming_response, open_cut, table_of, counts_of, IsTold, Stands, Reads, Fills, FillsAt, Stops, Settles}
+use Rattle.orb_engine.specs.Closing.{Closes, Undecided, coming_rule, closed_written}
 use Rattle.orb_engine.proofs.CutLemmas.{spell_items-length, spell_items-snoc, table-snoc, items-snoc, written-snoc, rules-snoc, count-sum, rules-length, items-few}
 use Rattle.orb_engine.proofs.OutputLaws.{written_front-undecided}
 
@@ -68,104 +68,96 @@ empty-open = record { open_ = refl; fits = lit< tt }
 pub few-exchanges : (incoming : Incoming) (e : Engine) (s : Settings) (m given : List ℕ) → Fills incoming e s m given
     → e.taken ≤ 2 ^ 62 → e.counts.allowed + e.counts.blocked < 2 ^ 62
 few-exchanges incoming e s m given f fits =
-    let few = items-few s map.empty f.items [] f.whole in
-    let some = head_length-bounds f.heads.request.bytes (length f.heads.request.bytes) f.good.request.head.text.ends in
-    let size : length m ≡ length (spell_items f.items []) + length (spell_heads f.heads f.sent) =
-    ap length f.spells ∙ spell_items-length f.items (spell_heads f.heads f.sent) in
-    let heads : length (spell_heads f.heads f.sent) ≡ length f.heads.request.bytes + (length f.heads.response.bytes + length f.sent) =
+    let c = f.coming in
+    let few = items-few s map.empty c.items [] f.whole in
+    let some = head_length-bounds c.heads.request.bytes (length c.heads.request.bytes) f.good.request.head.text.ends in
+    let size : length m ≡ length (spell_items c.items []) + length (spell_heads c.heads c.sent) =
+    ap length f.spells ∙ spell_items-length c.items (spell_heads c.heads c.sent) in
+    let heads : length (spell_heads c.heads c.sent) ≡ length c.heads.request.bytes + (length c.heads.response.bytes + length c.sent) =
     simp length-append in
-    let counts : e.counts.allowed + e.counts.blocked ≡ length f.items =
-    rw f.common.counts (count-sum (rules_of_items f.items) ∙ rules-length f.items) in
+    let counts : e.counts.allowed + e.counts.blocked ≡ length c.items =
+    rw f.common.counts (count-sum (rules_of_items c.items) ∙ rules-length c.items) in
     omega (arith, f.taken)
 
--- the body is undecided: nothing of it was written
-pub undecided-cut : (incoming : Incoming) (e : Engine) (s : Settings) (m given : List ℕ) (f : Fills incoming e s m given)
-    → IsTail s (table_of f.items) (cut.Undecided f.heads f.sent f.body)
-    → IsRecording s m (record { items = f.items; tail = cut.Undecided f.heads f.sent f.body; more = [] })
-undecided-cut incoming e s m given f tail = record {
-  spells = f.spells ∙ ap (λ t. spell_items f.items (spell_heads f.heads t)) (sym (append-nil f.sent));
-  items = f.whole;
-  tail = tail;
-  last = λ _. refl;
-}
+spelled : (incoming : Incoming) (e : Engine) (s : Settings) (m given : List ℕ) (f : Fills incoming e s m given)
+    → m ≡ spell_items f.coming.items (spell_heads f.coming.heads (f.coming.sent ++ []))
+spelled incoming e s m given f =
+    f.spells ∙ ap (λ t. spell_items f.coming.items (spell_heads f.coming.heads t)) (sym (append-nil f.coming.sent))
 
-pub undecided-stops : (incoming : Incoming) (e e' : Engine) (s : Settings) (a b : Option (List ℕ)) (k n : Option ℕ)
-    (m given : List ℕ) (f : Fills incoming e s m given) → e' ≡ e → Gains a b k n []
-    → window_rule_of (judged_by s (table_of f.items) f.heads) f.body ≡ None
-    → IsTail s (table_of f.items) (cut.Undecided f.heads f.sent f.body)
-    → Stops e' s a b k n m given false (outcome.NotBuilt incoming.place)
+-- the body is undecided: nothing of it was written
+pub undecided-stops : (incoming : Incoming) (e e' : Engine) (s : Settings) (m given given' : List ℕ) (f : Fills incoming e s m given)
+    → Undecided e' s f.coming given' → IsTail s (table_of f.coming.items) (cut.Undecided f.coming.heads f.coming.sent f.coming.body)
+    → Stops (outcome.NotBuilt incoming.place) e' s m false given'
 unfolding stop_of
-undecided-stops incoming e e' s a b k n m given f same none rule tail =
-    let r : Recording = record { items = f.items; tail = cut.Undecided f.heads f.sent f.body; more = [] } in
-    let silent : written_front s.job (exchange_of s (table_of f.items) f.heads) f.body ≡ [] =
-    written_front-undecided s.job (exchange_of s (table_of f.items) f.heads) f.body []
-    (ap (window_rule_of (judged_by s (table_of f.items) f.heads)) (append-nil f.body) ∙ rule) in
-    let out : given ++ (box_of e.writer).bytes ≡ written_items s map.empty 0 f.items =
-    f.gave ∙ ap (λ t. written_items s map.empty 0 f.items ++ t) silent ∙ append-nil _ in
-    rw same (record {
-      pushed = [];
-      gained = none;
-      recording = r;
-      cut = undecided-cut incoming e s m given f tail;
+undecided-stops incoming e e' s m given given' f u tail =
+    let c = f.coming in
+    let silent : written_front s.job (coming_response s c) c.body ≡ [] =
+    written_front-undecided s.job (coming_response s c) c.body []
+    (ap (window_rule_of (judged_by s (table_of c.items) c.heads)) (append-nil c.body) ∙ u.none) in
+    record {
+      recording = record { items = c.items; tail = cut.Undecided c.heads c.sent c.body; more = [] };
+      cut = record { spells = spelled incoming e s m given f; items = f.whole; tail = tail; last = λ _. refl };
       stop = ap (λ p. NotBuilt p) (sym f.receives.place);
-      gave = ap (λ t. t ++ (box_of e.writer).bytes) (append-nil given) ∙ out ∙ sym (output-undecided s f.items f.heads f.sent f.body [] false);
-      counts = f.common.counts ∙ ap counts_of (sym (rules-undecided s f.items f.heads f.sent f.body [] false));
-      told = subst (λ (t : List ℕ). IsTold e.told s f.items t) (sym (append-nil given)) f.common.told;
-    })
+      gave = u.gave ∙ ap (λ t. written_items s map.empty 0 c.items ++ t) silent ∙ append-nil _
+          ∙ sym (output-undecided s c.items c.heads c.sent c.body [] false);
+      counts = u.common.counts ∙ ap counts_of (sym (rules-undecided s c.items c.heads c.sent c.body [] false));
+      told = u.common.told;
+    }
 
 -- the body may go on
-pub goes-on : (incoming : Incoming) (e : Engine) (s : Settings) (a : Option (List ℕ)) (k : Option ℕ)
-    (m given : List ℕ) (f : Fills incoming e s m given) → e.stage ≡ stage.Sending incoming → Gains a a k k []
-    → (IsWhole f.heads.response.frame f.sent → ⊥) → is_in_text (judged_by s (table_of f.items) f.heads) f.body ≡ false
-    → Goes e s a a k k m given
-goes-on incoming e s a k m given f is none unfinished undecided = record {
-  pushed = [];
-  gained = none;
-  reads = subst (λ (t : List ℕ). Reads e s m t) (sym (append-nil given)) (record {
-    items = f.items;
-    tail = cut.Sending f.heads f.sent f.body;
-    cut = record {
-      spells = f.spells ∙ ap (λ t. spell_items f.items (spell_heads f.heads t)) (sym (append-nil f.sent));
-      items = f.whole;
-      tail = record { heads = f.good; front = f.front; unfinished = unfinished; undecided = undecided };
-      last = λ _. refl;
-    };
-    open_ = refl;
-    gave = f.gave ∙ sym (output-sending s f.items f.heads f.sent f.body []);
-    taken = f.taken;
-    common = f.common;
-    stands = stands-as e.stage (stage.Sending incoming) e s f.items _ is (record {
-      heads = f.heads;
-      sent = f.sent;
-      body = f.body;
-      is = refl;
-      receives = f.receives;
-    });
-  });
-}
+pub goes-on : (incoming : Incoming) (e : Engine) (s : Settings) (m given : List ℕ) (f : Fills incoming e s m given)
+    → e.stage ≡ stage.Sending incoming → (IsWhole f.coming.heads.response.frame f.coming.sent → ⊥)
+    → is_in_text (judged_by s (table_of f.coming.items) f.coming.heads) f.coming.body ≡ false → Reads e s m given
+goes-on incoming e s m given f is unfinished undecided =
+    let c = f.coming in
+    record {
+      items = c.items;
+      tail = cut.Sending c.heads c.sent c.body;
+      cut = record {
+        spells = spelled incoming e s m given f;
+        items = f.whole;
+        tail = record { heads = f.good; front = f.front; unfinished = unfinished; undecided = undecided };
+        last = λ _. refl;
+      };
+      open_ = refl;
+      gave = f.gave ∙ sym (output-sending s c.items c.heads c.sent c.body []);
+      taken = f.taken;
+      common = f.common;
+      stands = stands-as e.stage (stage.Sending incoming) e s c.items _ is (record {
+        heads = c.heads;
+        sent = c.sent;
+        body = c.body;
+        is = refl;
+        receives = f.receives;
+      });
+    }
+
+-- the exchange, where its body ends here and this rule decides it
+abbrev pub item_of : Coming → Rule → Item
+item_of c r = record { heads = c.heads; sent = c.sent; body = c.body; rule = r }
 
 -- the recording with the exchange that has been closed
-pub closed-cut : (incoming : Incoming) (e : Engine) (s : Settings) (m given : List ℕ) (f : Fills incoming e s m given) (r : Rule)
-    → IsWhole f.heads.response.frame f.sent → window_rule_of (judged_by s (table_of f.items) f.heads) f.body ≡ Some r
-    → IsRecording s m (open_cut (f.items ++ (record { heads = f.heads; sent = f.sent; body = f.body; rule = r } ∷ [])) (cut.Asking []))
+closed-cut : (incoming : Incoming) (e : Engine) (s : Settings) (m given : List ℕ) (f : Fills incoming e s m given) (r : Rule)
+    → IsWhole f.coming.heads.response.frame f.coming.sent → coming_rule s f.coming ≡ Some r
+    → IsRecording s m (open_cut (f.coming.items ++ (item_of f.coming r ∷ [])) (cut.Asking []))
 closed-cut incoming e s m given f r whole decided =
-    let i : Item = record { heads = f.heads; sent = f.sent; body = f.body; rule = r } in
+    let i = item_of f.coming r in
     record {
-      spells = f.spells ∙ ap (λ t. spell_items f.items (spell_heads f.heads t)) (sym (append-nil f.sent)) ∙ sym (spell_items-snoc f.items i []);
-      items = items-snoc s map.empty f.items i f.whole (record { heads = f.good; front = f.front; whole = whole; decided = decided });
+      spells = spelled incoming e s m given f ∙ sym (spell_items-snoc f.coming.items i []);
+      items = items-snoc s map.empty f.coming.items i f.whole (record { heads = f.good; front = f.front; whole = whole; decided = decided });
       tail = empty-open;
       last = λ _. refl;
     }
 
-pub closed-written : (s : Settings) (items : List Item) (i : Item)
-    → all_written s items i.heads i.body ≡ output_of s (open_cut (items ++ (i ∷ [])) (cut.Asking [])) false
-closed-written s items i =
-    ap (λ n. written_items s map.empty 0 items ++ written_whole s.job n (exchange_of s (table_of items) i.heads) i.body) (omega arith)
-    ∙ sym (written-snoc s map.empty 0 items i)
-    ∙ sym (output-asking s (items ++ (i ∷ [])) [] [] false)
+pub closed-output : (s : Settings) (c : Coming) (r : Rule)
+    → closed_written s c ≡ output_of s (open_cut (c.items ++ (item_of c r ∷ [])) (cut.Asking [])) false
+closed-output s c r =
+    ap (λ n. written_items s map.empty 0 c.items ++ written_whole s.job n (coming_response s c) c.body) (omega arith)
+    ∙ sym (written-snoc s map.empty 0 c.items (item_of c r))
+    ∙ sym (output-asking s (c.items ++ (item_of c r ∷ [])) [] [] false)
 
-told-snoc : (c : Counts) (s : Settings) (items : List Item) (i : Item) (wrote : List ℕ) → IsTold c s items wrote → IsTold c s (items ++ (i ∷ [])) wrote
-told-snoc c s items i wrote told = record {
+told-snoc : (n : Counts) (s : Settings) (items : List Item) (i : Item) (wrote : List ℕ) → IsTold n s items wrote → IsTold n s (items ++ (i ∷ [])) wrote
+told-snoc n s items i wrote told = record {
   front = told.front;
   others = told.others ++ (i ∷ []);
   are = ap (λ t. t ++ (i ∷ [])) told.are ∙ append_assoc told.front told.others (i ∷ []);
@@ -174,61 +166,56 @@ told-snoc c s items i wrote told = record {
 }
 
 -- what the answer of closing says of the recording
-pub settled : (r : Result (Unit {0}) EngineOutcome) (incoming : Incoming) (e e' : Engine) (s : Settings) (a b : Option (List ℕ))
-    (k n : Option ℕ) (m given : List ℕ) (f : Fills incoming e s m given) → IsWhole f.heads.response.frame f.sent
-    → Closes r incoming.place e e' s a b k n f.items f.heads f.body given → e'.taken ≡ e.taken
-    → Settles r e' s a b k n m given
-settled (Ok done) incoming e e' s a b k n m given f whole closed taken =
-    let i : Item = record { heads = f.heads; sent = f.sent; body = f.body; rule = closed.rule } in
+pub settled : (r : Result (Unit {0}) EngineOutcome) (incoming : Incoming) (e e' : Engine) (s : Settings) (m given given' : List ℕ)
+    (f : Fills incoming e s m given) → IsWhole f.coming.heads.response.frame f.coming.sent
+    → Closes r incoming.place e' s f.coming given' → e'.taken ≡ e.taken → Settles r e' s m given'
+settled (Ok done) incoming e e' s m given given' f whole closed taken =
+    let c = f.coming in
+    let i = item_of c closed.rule in
+    let recording = closed-cut incoming e s m given f closed.rule whole closed.decided in
     record {
-      pushed = closed.pushed;
-      gained = closed.gained;
-      reads = record {
-        items = f.items ++ (i ∷ []);
-        tail = cut.Asking [];
-        cut = closed-cut incoming e s m given f closed.rule whole closed.decided;
-        open_ = refl;
-        gave = closed.gave ∙ closed-written s f.items i;
-        taken = taken ∙ f.taken;
-        common = record {
-          settings = closed.settings;
-          place = closed.place ∙ taken ∙ f.taken ∙ ap length ((closed-cut incoming e s m given f closed.rule whole closed.decided).spells);
-          counts = closed.counts ∙ ap counts_of (sym (rules-snoc f.items i));
-          told = told-snoc e'.told s f.items i _ closed.told;
-        };
-        stands = stands-as e'.stage stage.Asking e' s (f.items ++ (i ∷ [])) _ closed.asking (record {
-          head = [];
-          is = refl;
-          text = closed.head;
-          media = closed.media ∙ sym (table-snoc map.empty f.items i);
-          writer = closed.writer;
-        });
+      items = c.items ++ (i ∷ []);
+      tail = cut.Asking [];
+      cut = recording;
+      open_ = refl;
+      gave = closed.gave ∙ closed-output s c closed.rule;
+      taken = taken ∙ f.taken;
+      common = record {
+        settings = closed.settings;
+        place = closed.place ∙ taken ∙ f.taken ∙ ap length recording.spells;
+        counts = closed.counts ∙ ap counts_of (sym (rules-snoc c.items i));
+        told = told-snoc e'.told s c.items i _ closed.told;
       };
+      stands = stands-as e'.stage stage.Asking e' s (c.items ++ (i ∷ [])) _ closed.asking (record {
+        head = [];
+        is = refl;
+        text = closed.head;
+        media = closed.media ∙ sym (table-snoc map.empty c.items i);
+        writer = closed.writer;
+      });
     }
-settled (Err (outcome.NotBuilt at)) incoming e e' s a b k n m given f whole closed taken =
-    rw closed.0 (undecided-stops incoming e e' s a b k n m given f closed.1.same closed.1.gained closed.1.undecided (record {
+settled (Err (outcome.NotBuilt at)) incoming e e' s m given given' f whole closed taken =
+    rw closed.0 (undecided-stops incoming e e' s m given given' f closed.1 (record {
       heads = f.good;
       front = f.front;
-      undecided = inr (whole, closed.1.undecided);
+      undecided = inr (whole, closed.1.none);
     }))
-settled (Err outcome.WriteFault) incoming e e' s a b k n m given f whole falls taken =
-    let i : Item = record { heads = f.heads; sent = f.sent; body = f.body; rule = falls.rule } in
+settled (Err outcome.WriteFault) incoming e e' s m given given' f whole falls taken =
+    let i = item_of f.coming falls.rule in
     record {
-      pushed = falls.pushed;
-      gained = falls.gained;
       seen = m;
       unseen = [];
       all = sym (append-nil m);
       all_seen = λ _. refl;
-      recording = open_cut (f.items ++ (i ∷ [])) (cut.Asking []);
+      recording = open_cut (f.coming.items ++ (i ∷ [])) (cut.Asking []);
       cut = closed-cut incoming e s m given f falls.rule whole falls.decided;
-      within = subst (λ (t : List ℕ). IsPrefix (given ++ falls.pushed) t) (closed-written s f.items i) falls.within;
-      told = told-snoc e'.told s f.items i _ falls.told;
+      within = subst (λ (t : List ℕ). IsPrefix given' t) (closed-output s f.coming falls.rule) falls.within;
+      told = told-snoc e'.told s f.coming.items i _ falls.told;
     }
-settled (Err outcome.Done) incoming e e' s a b k n m given f whole never taken = absurd never
-settled (Err (outcome.Bad kind at)) incoming e e' s a b k n m given f whole never taken = absurd never
-settled (Err (outcome.Cut at)) incoming e e' s a b k n m given f whole never taken = absurd never
-settled (Err (outcome.HeadLimit at)) incoming e e' s a b k n m given f whole never taken = absurd never
-settled (Err (outcome.MediaFull at)) incoming e e' s a b k n m given f whole never taken = absurd never
-settled (Err outcome.Endless) incoming e e' s a b k n m given f whole never taken = absurd never
-settled (Err outcome.ReadFault) incoming e e' s a b k n m given f whole never taken = absurd never
+settled (Err outcome.Done) incoming e e' s m given given' f whole never taken = absurd never
+settled (Err (outcome.Bad kind at)) incoming e e' s m given given' f whole never taken = absurd never
+settled (Err (outcome.Cut at)) incoming e e' s m given given' f whole never taken = absurd never
+settled (Err (outcome.HeadLimit at)) incoming e e' s m given given' f whole never taken = absurd never
+settled (Err (outcome.MediaFull at)) incoming e e' s m given given' f whole never taken = absurd never
+settled (Err outcome.Endless) incoming e e' s m given given' f whole never taken = absurd never
+settled (Err outcome.ReadFault) incoming e e' s m given given' f whole never taken = absurd never

@@ -1,10 +1,9 @@
 -- What goes out behind a piece.
-use Rattle.std.proofs.Common.{◌≡◌, ℕ, ◌^◌, ◌≤◌, Bool, true, false, List, [], ◌∷◌, ◌++◌, Option, Ok, refl, sym, ap, subst, ◌∙◌, inl, inr, append_assoc}
+use Rattle.std.proofs.Common.{◌≡◌, ℕ, ◌^◌, ◌≤◌, Bool, true, false, List, [], ◌∷◌, ◌++◌, refl, sym, ap, subst, ◌∙◌}
 use Rattle.std.specs.FinMap as map
 use Rattle.std.proofs.lemmas.List.{append-nil}
-use Rattle.orb_io.specs.Told.{Gains, IsPrefix}
-use Rattle.orb_io.proofs.ToldLemmas.{Gains-twice, IsPrefix-trans, IsPrefix-behind, IsPrefix-append}
-use Rattle.body_filter.specs.declared.pushing.WriteFault.{WriteFault}
+use Rattle.orb_io.specs.Told.{IsPrefix}
+use Rattle.orb_io.proofs.ToldLemmas.{IsPrefix-trans, IsPrefix-append}
 use Rattle.orb_engine.specs.declared.settings.Settings.{Settings}
 use Rattle.orb_engine.specs.declared.worker.Worker.{Worker}
 use Rattle.orb_engine.specs.declared.writer.Writer.{Writer}
@@ -21,10 +20,10 @@ use Rattle.orb_engine.specs.Recording as cut
 use Rattle.orb_engine.specs.Recording.{Item, Tail, Recording, is_open}
 use Rattle.orb_engine.specs.Outputs.{output_of, written_items}
 use Rattle.orb_engine.specs.Counts.{rules_of, rules_of_items, rules_of_tail}
-use Rattle.orb_engine.specs.Writing.{Passes, Breaks as WriterBreaks, IsSameBut, IsWriterFor, box_of}
-use Rattle.orb_engine.specs.Reads.{open_cut, table_of, counts_of, IsTold, Stands, IsStop, Stops, Goes}
-use Rattle.orb_engine.specs.Runs.{HasCounted, HasCountedFront, Ends, Continues, Fails, EndsAs}
-use Rattle.orb_engine.proofs.GatherLemmas.{flushed}
+use Rattle.orb_engine.specs.Writing.{IsSameBut, IsWriterFor, box_of, gathered_by}
+use Rattle.orb_engine.specs.Reads.{open_cut, table_of, counts_of, IsTold, Stands, IsStop, Reads, Stops, Breaks, Halts}
+use Rattle.orb_engine.specs.Ends.{Open}
+use Rattle.orb_engine.specs.Runs.{HasCounted, HasCountedFront, HasRead, Ends, Fails, EndsAs}
 use Rattle.orb_engine.proofs.AnswerLaws.{opens-stop}
 
 -- the counts of whole exchanges, by verdict
@@ -43,67 +42,72 @@ counted-front e s items wrote more told = record {
 }
 
 -- a stop, all of whose output went out
-pub stops-flushed : (o : EngineOutcome) (e e' : Engine) (s : Settings) (a b c : Option (List ℕ)) (j k n : Option ℕ) (m given : List ℕ) (ended : Bool)
-    → Stops e s a b j k m given ended o → e'.counts ≡ e.counts
-    → Passes {T = Unit {0}} {E = WriteFault} (Ok tt) (box_of e.writer) (box_of e'.writer) b c k n [] [] (λ _. box_of e'.writer ≡ empty_box)
-    → Ends e' s a c j n m given ended (IsStop o)
-stops-flushed o e e' s a b c j k n m given ended stops counts passed = record {
-  more = stops.pushed ++ (box_of e.writer).bytes;
-  gained = Gains-twice a b c j k n stops.pushed (box_of e.writer).bytes stops.gained (flushed (box_of e.writer) (box_of e'.writer) b c k n passed);
+pub stops-flushed : (o : EngineOutcome) (e e' : Engine) (s : Settings) (m given : List ℕ) (ended : Bool) (all : List ℕ)
+    → Stops o e s m ended given → e'.counts ≡ e.counts → all ≡ given ++ gathered_by e.writer
+    → Ends e' s m ended (IsStop o) all
+stops-flushed o e e' s m given ended all stops counts gave = record {
   recording = stops.recording;
   cut = stops.cut;
   stop = stops.stop;
-  gave = sym (append_assoc given stops.pushed (box_of e.writer).bytes) ∙ stops.gave;
+  gave = gave ∙ stops.gave;
   counted = counted e' s stops.recording ended (counts ∙ stops.counts);
 }
 
--- what was pushed of what was gathered
-broken-front : (b : BoxState) (a a' : Option (List ℕ)) (k k' : Option ℕ) → (w : WriterBreaks b a a' k k' [] [])
-    → (pushed : List ℕ) × Gains a a' k k' pushed × IsPrefix pushed b.bytes
-broken-front b a a' k k' w =
-    elim w.within [
-      | inl front ↦ (w.pushed, w.gained, front)
-      | inr more ↦ (w.pushed, w.gained, subst (λ (t : List ℕ). IsPrefix w.pushed t) (ap (λ t. b.bytes ++ t) (nil-front more.0 more.2) ∙ append-nil b.bytes) more.1)
-    ]
-  where
-    nil-front : (xs : List ℕ) → IsPrefix xs [] → xs ≡ []
-    nil-front [] p = refl
-    nil-front (x ∷ xs) p = absurd (cc (p.1))
-
 -- a stop, whose output didn't go out whole
-pub stops-broken : (o : EngineOutcome) (e e' : Engine) (s : Settings) (a b c : Option (List ℕ)) (j k n : Option ℕ) (m given : List ℕ) (ended : Bool)
-    → Stops e s a b j k m given ended o → e'.counts ≡ e.told → WriterBreaks (box_of e.writer) b c k n [] []
-    → Fails e' s a c j n m given ended
-stops-broken o e e' s a b c j k n m given ended stops counts broken =
-    let (pushed, gained, front) = broken-front (box_of e.writer) b c k n broken in
-    record {
-      more = stops.pushed ++ pushed;
-      gained = Gains-twice a b c j k n stops.pushed pushed stops.gained gained;
-      seen = m;
-      unseen = [];
-      all = sym (append-nil m);
-      all_seen = λ _. refl;
-      recording = stops.recording;
-      cut = stops.cut;
-      within = subst (λ (t : List ℕ). IsPrefix t (output_of s stops.recording ended)) (append_assoc given stops.pushed pushed)
-          (subst (λ (t : List ℕ). IsPrefix ((given ++ stops.pushed) ++ pushed) t) stops.gave
-          (IsPrefix-behind (given ++ stops.pushed) pushed (box_of e.writer).bytes front));
-      counted = subst (λ (t : List ℕ). HasCountedFront e' s stops.recording.items t) (append_assoc given stops.pushed pushed)
-          (counted-front e' s stops.recording.items (given ++ stops.pushed) pushed (rw counts stops.told));
-    }
+pub stops-broken : (o : EngineOutcome) (e e' : Engine) (s : Settings) (m given : List ℕ) (ended : Bool) (more : List ℕ)
+    → Stops o e s m ended given → e'.counts ≡ e.told → IsPrefix (given ++ more) (given ++ gathered_by e.writer)
+    → Fails e' s m ended (given ++ more)
+stops-broken o e e' s m given ended more stops counts within = record {
+  seen = m;
+  unseen = [];
+  all = sym (append-nil m);
+  all_seen = λ _. refl;
+  recording = stops.recording;
+  cut = stops.cut;
+  within = subst (λ (t : List ℕ). IsPrefix (given ++ more) t) stops.gave within;
+  counted = counted-front e' s stops.recording.items given more (rw counts stops.told);
+}
 
--- the answer behind a flush
-pub as-ends : (o : EngineOutcome) (e : Engine) (s : Settings) (a b : Option (List ℕ)) (k n : Option ℕ) (m given : List ℕ) (ended : Bool)
-    → (o ≡ outcome.WriteFault → ⊥) → Ends e s a b k n m given ended (IsStop o) → EndsAs o e s a b k n m given ended
-as-ends outcome.WriteFault e s a b k n m given ended never h = absurd (never refl)
-as-ends outcome.Done e s a b k n m given ended never h = h
-as-ends (outcome.Bad kind at) e s a b k n m given ended never h = h
-as-ends (outcome.Cut at) e s a b k n m given ended never h = h
-as-ends (outcome.HeadLimit at) e s a b k n m given ended never h = h
-as-ends (outcome.MediaFull at) e s a b k n m given ended never h = h
-as-ends (outcome.NotBuilt at) e s a b k n m given ended never h = h
-as-ends outcome.Endless e s a b k n m given ended never h = h
-as-ends outcome.ReadFault e s a b k n m given ended never h = h
+-- a fault before, after which nothing is pushed
+pub breaks-fail : (e e' : Engine) (s : Settings) (m : List ℕ) (ended : Bool) (given : List ℕ) → Breaks e s m ended given
+    → e'.counts ≡ e.told → Fails e' s m ended given
+breaks-fail e e' s m ended given broken counts = record {
+  seen = broken.seen;
+  unseen = broken.unseen;
+  all = broken.all;
+  all_seen = broken.all_seen;
+  recording = broken.recording;
+  cut = broken.cut;
+  within = broken.within;
+  counted = subst (λ (t : List ℕ). HasCountedFront e' s broken.recording.items t) (append-nil given)
+      (counted-front e' s broken.recording.items given [] (rw counts broken.told));
+}
+
+-- the answer after a flush
+pub as-ends : (o : EngineOutcome) (e : Engine) (s : Settings) (m : List ℕ) (ended : Bool) (given : List ℕ)
+    → (o ≡ outcome.WriteFault → ⊥) → Ends e s m ended (IsStop o) given → EndsAs o e s m ended given
+as-ends outcome.WriteFault e s m ended given never h = absurd (never refl)
+as-ends outcome.Done e s m ended given never h = h
+as-ends (outcome.Bad kind at) e s m ended given never h = h
+as-ends (outcome.Cut at) e s m ended given never h = h
+as-ends (outcome.HeadLimit at) e s m ended given never h = h
+as-ends (outcome.MediaFull at) e s m ended given never h = h
+as-ends (outcome.NotBuilt at) e s m ended given never h = h
+as-ends outcome.Endless e s m ended given never h = h
+as-ends outcome.ReadFault e s m ended given never h = h
+
+-- what stops a step, where the sink has not failed
+pub as-stops : (o : EngineOutcome) (e : Engine) (s : Settings) (m : List ℕ) (ended : Bool) (given : List ℕ)
+    → (o ≡ outcome.WriteFault → ⊥) → Halts o e s m ended given → Stops o e s m ended given
+as-stops outcome.WriteFault e s m ended given never h = absurd (never refl)
+as-stops outcome.Done e s m ended given never h = h
+as-stops (outcome.Bad kind at) e s m ended given never h = h
+as-stops (outcome.Cut at) e s m ended given never h = h
+as-stops (outcome.HeadLimit at) e s m ended given never h = h
+as-stops (outcome.MediaFull at) e s m ended given never h = h
+as-stops (outcome.NotBuilt at) e s m ended given never h = h
+as-stops outcome.Endless e s m ended given never h = h
+as-stops outcome.ReadFault e s m ended given never h = h
 
 -- an open tail adds no exchange
 open-rules : (s : Settings) (items : List Item) (t : Tail) → is_open t ≡ true → rules_of s (open_cut items t) false ≡ rules_of_items items
@@ -176,35 +180,28 @@ stands-flushed (stage.Sending incoming) e e' s items tail h head media same empt
 }
 
 -- an open recording, all of whose output went out
-pub goes-flushed : (e e' : Engine) (s : Settings) (a b c : Option (List ℕ)) (j k n : Option ℕ) (m given : List ℕ)
-    → Goes e s a b j k m given → e.taken ≤ 2 ^ 62
+pub reads-flushed : (e e' : Engine) (s : Settings) (m given all : List ℕ) → Reads e s m given → e.taken ≤ 2 ^ 62
     → e'.head ≡ e.head → e'.media ≡ e.media → IsSameBut e.writer e'.writer → e'.stage ≡ e.stage → e'.place ≡ e.place
     → e'.taken ≡ e.taken → e'.counts ≡ e.counts → e'.told ≡ e.counts
-    → Passes {T = Unit {0}} {E = WriteFault} (Ok tt) (box_of e.writer) (box_of e'.writer) b c k n [] [] (λ _. box_of e'.writer ≡ empty_box)
-    → Continues e' s a c j n m given
-goes-flushed e e' s a b c j k n m given goes few head media same stage_ place taken counts told passed =
-    let r = goes.reads in
-    let more = goes.pushed ++ (box_of e.writer).bytes in
-    let out : given ++ more ≡ output_of s (open_cut r.items r.tail) false =
-    sym (append_assoc given goes.pushed (box_of e.writer).bytes) ∙ r.gave in
-    let empty = passed.3 in
-    record {
-      ends = record {
-        more = more;
-        gained = Gains-twice a b c j k n goes.pushed (box_of e.writer).bytes goes.gained (flushed (box_of e.writer) (box_of e'.writer) b c k n passed);
-        recording = open_cut r.items r.tail;
+    → all ≡ given ++ gathered_by e.writer → box_of e'.writer ≡ empty_box
+    → Ends e' s m false (λ stop. stop ≡ Open) all × HasRead e' s m all
+reads-flushed e e' s m given all r few head media same stage_ place taken counts told gave empty =
+    let recording = open_cut r.items r.tail in
+    let out : all ≡ output_of s recording false = gave ∙ r.gave in (
+      record {
+        recording = recording;
         cut = r.cut;
-        stop = (opens-stop s (open_cut r.items r.tail)).1 r.open_;
+        stop = (opens-stop s recording).1 r.open_;
         gave = out;
-        counted = counted e' s (open_cut r.items r.tail) false (counts ∙ r.common.counts ∙ ap counts_of (sym (open-rules s r.items r.tail r.open_)));
-      };
-      reads = record {
+        counted = counted e' s recording false (counts ∙ r.common.counts ∙ ap counts_of (sym (open-rules s r.items r.tail r.open_)));
+      },
+      record {
         reads = record {
           items = r.items;
           tail = r.tail;
           cut = r.cut;
           open_ = r.open_;
-          gave = ap (λ (x : BoxState). (given ++ more) ++ x.bytes) empty ∙ append-nil _ ∙ out;
+          gave = ap (λ (x : BoxState). all ++ x.bytes) empty ∙ append-nil _ ∙ out;
           taken = taken ∙ r.taken;
           common = record {
             settings = same.settings ∙ r.common.settings;
@@ -223,27 +220,18 @@ goes-flushed e e' s a b c j k n m given goes few head media same stage_ place ta
         };
         flushed = empty;
         few = rw taken few;
-      };
-    }
+      },
+    )
 
-pub goes-broken : (e e' : Engine) (s : Settings) (a b c : Option (List ℕ)) (j k n : Option ℕ) (m given : List ℕ)
-    → Goes e s a b j k m given → e'.counts ≡ e.told → WriterBreaks (box_of e.writer) b c k n [] []
-    → Fails e' s a c j n m given false
-goes-broken e e' s a b c j k n m given goes counts broken =
-    let r = goes.reads in
-    let (pushed, gained, front) = broken-front (box_of e.writer) b c k n broken in
-    record {
-      more = goes.pushed ++ pushed;
-      gained = Gains-twice a b c j k n goes.pushed pushed goes.gained gained;
-      seen = m;
-      unseen = [];
-      all = sym (append-nil m);
-      all_seen = λ _. refl;
-      recording = open_cut r.items r.tail;
-      cut = r.cut;
-      within = subst (λ (t : List ℕ). IsPrefix t (output_of s (open_cut r.items r.tail) false)) (append_assoc given goes.pushed pushed)
-          (subst (λ (t : List ℕ). IsPrefix ((given ++ goes.pushed) ++ pushed) t) r.gave
-          (IsPrefix-behind (given ++ goes.pushed) pushed (box_of e.writer).bytes front));
-      counted = subst (λ (t : List ℕ). HasCountedFront e' s r.items t) (append_assoc given goes.pushed pushed)
-          (counted-front e' s r.items (given ++ goes.pushed) pushed (rw counts r.common.told));
-    }
+pub reads-broken : (e e' : Engine) (s : Settings) (m given more : List ℕ) → Reads e s m given → e'.counts ≡ e.told
+    → IsPrefix (given ++ more) (given ++ gathered_by e.writer) → Fails e' s m false (given ++ more)
+reads-broken e e' s m given more r counts within = record {
+  seen = m;
+  unseen = [];
+  all = sym (append-nil m);
+  all_seen = λ _. refl;
+  recording = open_cut r.items r.tail;
+  cut = r.cut;
+  within = subst (λ (t : List ℕ). IsPrefix (given ++ more) t) r.gave within;
+  counted = counted-front e' s r.items given more (rw counts r.common.told);
+}

@@ -1,9 +1,9 @@
 -- Steps through heads.
-use Rattle.std.proofs.Common.{◌≡◌, ℕ, ◌+◌, ◌≤◌, Bool, false, List, [], ◌++◌, length, take, drop, Option, Ok, Err, refl, sym, ap, subst, ◌∙◌, arith, append_assoc, length-append}
+use Rattle.std.proofs.Common.{◌≡◌, ℕ, ◌+◌, ◌≤◌, Bool, false, List, [], ◌++◌, length, take, drop, Ok, Err, refl, sym, ap, subst, ◌∙◌, arith, append_assoc, length-append}
 use Rattle.std.proofs.lemmas.Bool.{false≢true}
 use Rattle.std.specs.FinMap as map
-use Rattle.std.proofs.lemmas.List.{append-nil, take-append-drop, length-take-le}
-use Rattle.std.proofs.Math.Seq.{take-append_seam}
+use Rattle.std.proofs.lemmas.List.{append-nil, take-append-drop}
+use Rattle.std.proofs.Math.Seq.{take-length}
 use Rattle.httparse.specs.Grammar.{status_code}
 use Rattle.http_exchange.specs.Heads.{IsResponse}
 use Rattle.http_exchange.specs.Fields.{pairs_of}
@@ -13,7 +13,6 @@ use Rattle.response_rules.specs.Reads.{HasRead as DeciderHasRead, head_of}
 use Rattle.media_state.specs.declared.states.MediaState.{MediaState}
 use Rattle.orb_engine.specs.HeadReads.{ReadsWell}
 use Rattle.orb_engine.proofs.AnswerLaws.{refusal-stands, items-longer}
-use Rattle.orb_io.specs.Told.{Gains}
 use Rattle.http_exchange.specs.Reading.{ReadsRequestHead, ReadsResponseHead}
 use Rattle.http_exchange.specs.declared.refusals.BadKind.{BadKind}
 use Rattle.http_exchange.specs.declared.request.RequestHead.{RequestHead}
@@ -32,8 +31,8 @@ use Rattle.orb_engine.specs.Ends as ends
 use Rattle.orb_engine.specs.Ends.{End, stop_of}
 use Rattle.orb_engine.specs.Outputs.{output_of, written_items, written_tail}
 use Rattle.orb_engine.specs.Counts.{rules_of, rules_of_items, rules_of_tail}
-use Rattle.orb_engine.specs.Writing.{box_of}
-use Rattle.orb_engine.specs.Reads.{open_cut, table_of, counts_of, IsTold, Common, Asks, Answers, Stands, Reads, IsStop, Stops, Breaks, Halts, Goes, Takes, HasOpenRequest, HasWholeRequest, HasOpenResponse, HasWholeResponse, HasReadHeads}
+use Rattle.orb_engine.specs.Writing.{gathered_by}
+use Rattle.orb_engine.specs.Reads.{open_cut, table_of, counts_of, IsTold, Common, Asks, Answers, Stands, Reads, IsStop, Stops, Breaks, Halts, HasRequest, HasResponse, HasReadHeads}
 use Rattle.orb_engine.proofs.CutLemmas.{spell_items-append, spell_items-length}
 use Rattle.orb_engine.proofs.FillLemmas.{empty-open, output-asking, stands-as}
 
@@ -50,24 +49,21 @@ pub rules-quiet : (s : Settings) (items : List Item) (t : Tail) (more : List ℕ
 unfolding rules_of
 rules-quiet s items t more ended none = ap (λ x. rules_of_items items ++ x) none ∙ append-nil _
 
--- a refusal that gives nothing
-pub quiet-stops : (e e' : Engine) (s : Settings) (a : Option (List ℕ)) (k : Option ℕ) (m given : List ℕ) (items : List Item)
-    (t : Tail) (more : List ℕ) (o : EngineOutcome)
+-- an end that gives nothing
+pub quiet-stops : (o : EngineOutcome) (e : Engine) (s : Settings) (m given : List ℕ) (ended : Bool) (items : List Item) (t : Tail) (more : List ℕ)
     → IsRecording s m (record { items = items; tail = t; more = more })
-    → written_tail s (table_of items) (length items) false t ≡ [] → rules_of_tail s (table_of items) false t ≡ []
-    → IsStop o (stop_of s (record { items = items; tail = t; more = more }) false)
-    → Gains a a k k [] → given ++ (box_of e'.writer).bytes ≡ written_items s map.empty 0 items
-    → e'.counts ≡ counts_of (rules_of_items items) → IsTold e'.told s items given
-    → Stops e' s a a k k m given false o
-quiet-stops e e' s a k m given items t more o cut_ quiet rules stop none gave counts told = record {
-  pushed = [];
-  gained = none;
+    → written_tail s (table_of items) (length items) ended t ≡ [] → rules_of_tail s (table_of items) ended t ≡ []
+    → IsStop o (stop_of s (record { items = items; tail = t; more = more }) ended)
+    → given ++ gathered_by e.writer ≡ written_items s map.empty 0 items
+    → e.counts ≡ counts_of (rules_of_items items) → IsTold e.told s items given
+    → Stops o e s m ended given
+quiet-stops o e s m given ended items t more cut_ quiet rules stop gave counts told = record {
   recording = record { items = items; tail = t; more = more };
   cut = cut_;
   stop = stop;
-  gave = ap (λ x. x ++ (box_of e'.writer).bytes) (append-nil given) ∙ gave ∙ sym (output-quiet s items t more false quiet);
-  counts = counts ∙ ap counts_of (sym (rules-quiet s items t more false rules));
-  told = subst (λ (x : List ℕ). IsTold e'.told s items x) (sym (append-nil given)) told;
+  gave = gave ∙ sym (output-quiet s items t more ended quiet);
+  counts = counts ∙ ap counts_of (sym (rules-quiet s items t more ended rules));
+  told = told;
 }
 
 asks-at : (t : Stage) (e : Engine) (s : Settings) (items : List Item) (tail : Tail) → t ≡ stage.Asking
@@ -80,7 +76,7 @@ answers-at t asked e s items tail is h = subst (λ (u : Stage). Stands u e s ite
 
 -- an engine in a request head
 pub open-request : (e : Engine) (s : Settings) (m given : List ℕ) → Reads e s m given → e.stage ≡ stage.Asking
-    → HasOpenRequest e s m given
+    → HasRequest IsOpenHead e s m given
 open-request e s m given r is =
     let a = asks-at e.stage e s r.items r.tail is r.stands in
     record {
@@ -97,7 +93,7 @@ open-request e s m given r is =
       common = r.common;
     }
 
-pub reads-request : (e : Engine) (s : Settings) (m given : List ℕ) → HasOpenRequest e s m given → e.stage ≡ stage.Asking
+pub reads-request : (e : Engine) (s : Settings) (m given : List ℕ) → HasRequest IsOpenHead e s m given → e.stage ≡ stage.Asking
     → Reads e s m given
 reads-request e s m given h is = record {
   items = h.items;
@@ -123,7 +119,7 @@ reads-request e s m given h is = record {
 
 -- an engine in a response head
 pub open-response : (asked : Asked) (e : Engine) (s : Settings) (m given : List ℕ) → Reads e s m given → e.stage ≡ stage.Answering asked
-    → HasOpenResponse asked e s m given
+    → HasResponse IsOpenHead asked e s m given
 unfolding output_of
 open-response asked e s m given r is =
     let a = answers-at e.stage asked e s r.items r.tail is r.stands in
@@ -147,7 +143,7 @@ open-response asked e s m given r is =
       common = r.common;
     }
 
-pub reads-response : (asked : Asked) (e : Engine) (s : Settings) (m given : List ℕ) → HasOpenResponse asked e s m given
+pub reads-response : (asked : Asked) (e : Engine) (s : Settings) (m given : List ℕ) → HasResponse IsOpenHead asked e s m given
     → e.stage ≡ stage.Answering asked → Reads e s m given
 unfolding output_of
 reads-response asked e s m given h is = record {
@@ -193,97 +189,79 @@ common-same e e' s items given same c = record {
   told = rw same.told c.told;
 }
 
-box-same : (e e' : Engine) → IsSameHead e e' → (box_of e'.writer).bytes ≡ (box_of e.writer).bytes
-box-same e e' same = ap (λ w. (box_of w).bytes) same.writer
+box-same : (e e' : Engine) → IsSameHead e e' → gathered_by e'.writer ≡ gathered_by e.writer
+box-same e e' same = ap gathered_by same.writer
 
 -- more of a request head
-pub request-more : (e e' : Engine) (s : Settings) (m given front : List ℕ) → HasOpenRequest e s m given → IsSameHead e e'
-    → e'.head ≡ e.head ++ front → IsOpenHead e'.head → e'.taken ≡ e.taken + length front
-    → HasOpenRequest e' s (m ++ front) given
-request-more e e' s m given front h same head open_ taken = record {
+pub request-longer : (IsText : List ℕ → Type 0) (e e' : Engine) (s : Settings) (m given prefix : List ℕ) → HasRequest IsOpenHead e s m given
+    → IsSameHead e e' → e'.head ≡ e.head ++ prefix → IsText e'.head → e'.taken ≡ e.taken + length prefix
+    → HasRequest IsText e' s (m ++ prefix) given
+request-longer IsText e e' s m given prefix h same head text taken = record {
   items = h.items;
-  head = h.head ++ front;
-  spells = ap (λ x. x ++ front) h.spells ∙ spell_items-append h.items h.head front;
+  head = h.head ++ prefix;
+  spells = ap (λ x. x ++ prefix) h.spells ∙ spell_items-append h.items h.head prefix;
   whole = h.whole;
-  text = subst (λ (x : List ℕ). IsOpenHead x) (head ∙ ap (λ x. x ++ front) h.buffer) open_;
-  buffer = head ∙ ap (λ x. x ++ front) h.buffer;
+  text = subst IsText (head ∙ ap (λ x. x ++ prefix) h.buffer) text;
+  buffer = head ∙ ap (λ x. x ++ prefix) h.buffer;
   media = same.media ∙ h.media;
   writer = rw same.writer h.writer;
   gave = ap (λ x. given ++ x) (box-same e e' same) ∙ h.gave;
-  taken = omega (arith, taken, h.taken, length-append m front);
+  taken = omega (arith, taken, h.taken, length-append m prefix);
   common = common-same e e' s h.items given same h.common;
 }
 
-pub request-whole : (e e' : Engine) (s : Settings) (m given front : List ℕ) → HasOpenRequest e s m given → IsSameHead e e'
-    → e'.head ≡ e.head ++ front → IsHeadText e'.head → e'.taken ≡ e.taken + length front
-    → HasWholeRequest e' s (m ++ front) given
-request-whole e e' s m given front h same head text taken = record {
-  items = h.items;
-  head = h.head ++ front;
-  spells = ap (λ x. x ++ front) h.spells ∙ spell_items-append h.items h.head front;
-  whole = h.whole;
-  text = subst (λ (x : List ℕ). IsHeadText x) (head ∙ ap (λ x. x ++ front) h.buffer) text;
-  buffer = head ∙ ap (λ x. x ++ front) h.buffer;
-  media = same.media ∙ h.media;
-  writer = rw same.writer h.writer;
-  gave = ap (λ x. given ++ x) (box-same e e' same) ∙ h.gave;
-  taken = omega (arith, taken, h.taken, length-append m front);
-  common = common-same e e' s h.items given same h.common;
-}
-
-pub request-long : (e e' : Engine) (s : Settings) (a : Option (List ℕ)) (k : Option ℕ) (m given front rest : List ℕ)
-    → HasOpenRequest e s m given → IsSameHead e e' → e'.head ≡ e.head ++ front → IsLongHead e'.head → Gains a a k k []
-    → Stops e' s a a k k (m ++ (front ++ rest)) given false (outcome.HeadLimit e.place)
+pub request-long : (e e' : Engine) (s : Settings) (m given prefix rest : List ℕ) → HasRequest IsOpenHead e s m given
+    → IsSameHead e e' → e'.head ≡ e.head ++ prefix → IsLongHead e'.head
+    → Stops (outcome.HeadLimit e.place) e' s (m ++ (prefix ++ rest)) false given
 unfolding stop_of
-request-long e e' s a k m given front rest h same head long none =
-    quiet-stops e e' s a k (m ++ (front ++ rest)) given h.items (cut.LongRequest (h.head ++ front)) rest (outcome.HeadLimit e.place)
+request-long e e' s m given prefix rest h same head long =
+    quiet-stops (outcome.HeadLimit e.place) e' s (m ++ (prefix ++ rest)) given false h.items (cut.LongRequest (h.head ++ prefix)) rest
     (record {
-      spells = ap (λ x. x ++ (front ++ rest)) h.spells ∙ spell_items-append h.items h.head (front ++ rest)
-          ∙ ap (spell_items h.items) (sym (append_assoc h.head front rest));
+      spells = ap (λ x. x ++ (prefix ++ rest)) h.spells ∙ spell_items-append h.items h.head (prefix ++ rest)
+          ∙ ap (spell_items h.items) (sym (append_assoc h.head prefix rest));
       items = h.whole;
-      tail = subst (λ (x : List ℕ). IsLongHead x) (head ∙ ap (λ x. x ++ front) h.buffer) long;
+      tail = subst (λ (x : List ℕ). IsLongHead x) (head ∙ ap (λ x. x ++ prefix) h.buffer) long;
       last = λ never. absurd (cc never);
-    }) refl refl (ap (λ p. ends.HeadLimit p) (sym h.common.place)) none
+    }) refl refl (ap (λ p. ends.HeadLimit p) (sym h.common.place))
     (ap (λ x. given ++ x) (box-same e e' same) ∙ h.gave) (same.counts ∙ h.common.counts) (rw same.told h.common.told)
 
 -- the request head is refused
-pub request-bad : (e e' : Engine) (s : Settings) (a : Option (List ℕ)) (k : Option ℕ) (m given : List ℕ) (kind : BadKind)
-    → HasWholeRequest e s m given → IsSameHead e e' → ReadsRequestHead e.head (Err kind) → Gains a a k k []
-    → Stops e' s a a k k m given false (outcome.Bad kind e.place)
+pub request-bad : (e e' : Engine) (s : Settings) (m given : List ℕ) (kind : BadKind) → HasRequest IsHeadText e s m given
+    → IsSameHead e e' → ReadsRequestHead e.head (Err kind) → Stops (outcome.Bad kind e.place) e' s m false given
 unfolding stop_of
-request-bad e e' s a k m given kind h same reads none =
-    quiet-stops e e' s a k m given h.items (cut.BadRequest h.head kind) [] (outcome.Bad kind e.place)
+request-bad e e' s m given kind h same reads =
+    quiet-stops (outcome.Bad kind e.place) e' s m given false h.items (cut.BadRequest h.head kind) []
     (record {
       spells = h.spells ∙ ap (spell_items h.items) (sym (append-nil h.head));
       items = h.whole;
       tail = (h.text, subst (λ (x : List ℕ). ReadsRequestHead x (Err kind)) h.buffer reads);
       last = λ never. absurd (cc never);
-    }) refl refl (ap (λ p. ends.Bad kind p) (sym h.common.place)) none
+    }) refl refl (ap (λ p. ends.Bad kind p) (sym h.common.place))
     (ap (λ x. given ++ x) (box-same e e' same) ∙ h.gave) (same.counts ∙ h.common.counts) (rw same.told h.common.told)
 
 -- the table of media states is full
-pub request-full : (e e' : Engine) (s : Settings) (a : Option (List ℕ)) (k : Option ℕ) (m given : List ℕ) (asks : RequestHead)
-    → HasWholeRequest e s m given → e'.writer ≡ e.writer → e'.counts ≡ e.counts → e'.told ≡ e.told
-    → ReadsRequestHead e.head (Ok asks) → IsRefusedId e.media (id_of asks) → Gains a a k k []
-    → Stops e' s a a k k m given false (outcome.MediaFull e.place)
+pub request-full : (e e' : Engine) (s : Settings) (m given : List ℕ) (asks : RequestHead) → HasRequest IsHeadText e s m given
+    → e'.writer ≡ e.writer → e'.counts ≡ e.counts → e'.told ≡ e.told
+    → ReadsRequestHead e.head (Ok asks) → IsRefusedId e.media (id_of asks)
+    → Stops (outcome.MediaFull e.place) e' s m false given
 unfolding stop_of
-request-full e e' s a k m given asks h writer counts told reads refused none =
+request-full e e' s m given asks h writer counts told reads refused =
     let r : Request = record { bytes = h.head; asks = asks } in
-    quiet-stops e e' s a k m given h.items (cut.FullTable r) [] (outcome.MediaFull e.place)
+    quiet-stops (outcome.MediaFull e.place) e' s m given false h.items (cut.FullTable r) []
     (record {
       spells = h.spells ∙ ap (spell_items h.items) (sym (append-nil h.head));
       items = h.whole;
       tail = (record { text = h.text; reads = subst (λ (x : List ℕ). ReadsRequestHead x (Ok asks)) h.buffer reads }, rw (← h.media) refused);
       last = λ never. absurd (cc never);
-    }) refl refl (ap (λ p. ends.MediaFull p) (sym h.common.place)) none
-    (ap (λ w. given ++ (box_of w).bytes) writer ∙ h.gave) (counts ∙ h.common.counts) (rw told h.common.told)
+    }) refl refl (ap (λ p. ends.MediaFull p) (sym h.common.place))
+    (ap (λ w. given ++ gathered_by w) writer ∙ h.gave) (counts ∙ h.common.counts) (rw told h.common.told)
 
 -- the request is good, and its response comes
-pub request-good : (e e' : Engine) (asked : Asked) (s : Settings) (m given : List ℕ) → HasWholeRequest e s m given
+pub request-good : (e e' : Engine) (asked : Asked) (s : Settings) (m given : List ℕ) → HasRequest IsHeadText e s m given
     → e'.writer ≡ e.writer → e'.counts ≡ e.counts → e'.told ≡ e.told → e'.place ≡ e.place → e'.taken ≡ e.taken
     → e'.head ≡ [] → ReadsRequestHead e.head (Ok asked.asks) → (IsRefusedId e.media (id_of asked.asks) → ⊥)
     → asked.state ≡ state_before e.media asked.asks → e'.media ≡ admits e.media (id_of asked.asks) → asked.place ≡ e.taken
-    → HasOpenResponse asked e' s m given
+    → HasResponse IsOpenHead asked e' s m given
 request-good e e' asked s m given h writer counts told place taken empty reads room state media asked_place = record {
   items = h.items;
   request = record { bytes = h.head; asks = asked.asks };
@@ -301,7 +279,7 @@ request-good e e' asked s m given h writer counts told place taken empty reads r
   asks = refl;
   state = state ∙ ap (λ t. state_before t asked.asks) h.media;
   place = asked_place ∙ h.taken ∙ ap length h.spells ∙ spell_items-length h.items h.head;
-  gave = ap (λ w. given ++ (box_of w).bytes) writer ∙ h.gave;
+  gave = ap (λ w. given ++ gathered_by w) writer ∙ h.gave;
   taken = taken ∙ h.taken;
   common = record {
     settings = ap (λ w. w.settings) writer ∙ h.common.settings;
@@ -309,26 +287,6 @@ request-good e e' asked s m given h writer counts told place taken empty reads r
     counts = counts ∙ h.common.counts;
     told = rw told h.common.told;
   };
-}
-
--- nothing was pushed
-pub goes-none : (e : Engine) (s : Settings) (a : Option (List ℕ)) (k : Option ℕ) (m given : List ℕ) → Gains a a k k []
-    → Reads e s m given → Goes e s a a k k m given
-goes-none e s a k m given none reads = record {
-  pushed = [];
-  gained = none;
-  reads = subst (λ (x : List ℕ). Reads e s m x) (sym (append-nil given)) reads;
-}
-
--- a step that took the first bytes of a piece
-pub takes-front : (e : Engine) (s : Settings) (a b : Option (List ℕ)) (k n : Option ℕ) (m given piece : List ℕ) (used : ℕ)
-    → used ≤ length piece → Goes e s a b k n (m ++ take used piece) given → Takes e s a b k n m given piece used
-takes-front e s a b k n m given piece used within goes = record {
-  front = take used piece;
-  rest = drop used piece;
-  is = sym (take-append-drop used piece);
-  size_ = length-take-le used piece within;
-  goes = goes;
 }
 
 stop-closed : (o : EngineOutcome) (stop : End) → IsStop o stop → stop ≡ ends.Open → ⊥
@@ -343,15 +301,13 @@ stop-closed outcome.ReadFault stop never open_ = never
 stop-closed outcome.WriteFault stop never open_ = never
 
 -- a refusal stands whatever follows it
-pub stops-longer : (o : EngineOutcome) (e : Engine) (s : Settings) (a b : Option (List ℕ)) (k n : Option ℕ) (m more given : List ℕ)
-    → Stops e s a b k n m given false o → Stops e s a b k n (m ++ more) given false o
-stops-longer o e s a b k n m more given stops =
+pub stops-longer : (o : EngineOutcome) (e : Engine) (s : Settings) (m more given : List ℕ) → Stops o e s m false given
+    → Stops o e s (m ++ more) false given
+stops-longer o e s m more given stops =
     let closed = stop-closed o (stop_of s stops.recording false) stops.stop in
     let (r, cut_, same) = refusal-stands s m more stops.recording stops.cut closed in
     let (others, are) = items-longer s m more stops.recording r stops.cut cut_ in
     record {
-      pushed = stops.pushed;
-      gained = stops.gained;
       recording = r;
       cut = cut_;
       stop = subst (λ (x : End). IsStop o x) (sym (same.stop false)) stops.stop;
@@ -366,11 +322,8 @@ stops-longer o e s a b k n m more given stops =
       };
     }
 
-breaks-longer : (e : Engine) (s : Settings) (a b : Option (List ℕ)) (k n : Option ℕ) (m more given : List ℕ)
-    → Breaks e s a b k n m given false → Breaks e s a b k n (m ++ more) given false
-breaks-longer e s a b k n m more given broken = record {
-  pushed = broken.pushed;
-  gained = broken.gained;
+breaks-longer : (e : Engine) (s : Settings) (m more given : List ℕ) → Breaks e s m false given → Breaks e s (m ++ more) false given
+breaks-longer e s m more given broken = record {
   seen = broken.seen;
   unseen = broken.unseen ++ more;
   all = ap (λ t. t ++ more) broken.all ∙ append_assoc broken.seen broken.unseen more;
@@ -381,102 +334,78 @@ breaks-longer e s a b k n m more given broken = record {
   told = broken.told;
 }
 
-pub halts-longer : (o : EngineOutcome) (e : Engine) (s : Settings) (a b : Option (List ℕ)) (k n : Option ℕ) (m more given : List ℕ)
-    → Halts o e s a b k n m given false → Halts o e s a b k n (m ++ more) given false
-halts-longer outcome.WriteFault e s a b k n m more given h = breaks-longer e s a b k n m more given h
-halts-longer outcome.Done e s a b k n m more given h = stops-longer outcome.Done e s a b k n m more given h
-halts-longer (outcome.Bad kind at) e s a b k n m more given h = stops-longer (outcome.Bad kind at) e s a b k n m more given h
-halts-longer (outcome.Cut at) e s a b k n m more given h = stops-longer (outcome.Cut at) e s a b k n m more given h
-halts-longer (outcome.HeadLimit at) e s a b k n m more given h = stops-longer (outcome.HeadLimit at) e s a b k n m more given h
-halts-longer (outcome.MediaFull at) e s a b k n m more given h = stops-longer (outcome.MediaFull at) e s a b k n m more given h
-halts-longer (outcome.NotBuilt at) e s a b k n m more given h = stops-longer (outcome.NotBuilt at) e s a b k n m more given h
-halts-longer outcome.Endless e s a b k n m more given h = stops-longer outcome.Endless e s a b k n m more given h
-halts-longer outcome.ReadFault e s a b k n m more given h = stops-longer outcome.ReadFault e s a b k n m more given h
+halts-longer : (o : EngineOutcome) (e : Engine) (s : Settings) (m more given : List ℕ) → Halts o e s m false given
+    → Halts o e s (m ++ more) false given
+halts-longer outcome.WriteFault e s m more given h = breaks-longer e s m more given h
+halts-longer outcome.Done e s m more given h = stops-longer outcome.Done e s m more given h
+halts-longer (outcome.Bad kind at) e s m more given h = stops-longer (outcome.Bad kind at) e s m more given h
+halts-longer (outcome.Cut at) e s m more given h = stops-longer (outcome.Cut at) e s m more given h
+halts-longer (outcome.HeadLimit at) e s m more given h = stops-longer (outcome.HeadLimit at) e s m more given h
+halts-longer (outcome.MediaFull at) e s m more given h = stops-longer (outcome.MediaFull at) e s m more given h
+halts-longer (outcome.NotBuilt at) e s m more given h = stops-longer (outcome.NotBuilt at) e s m more given h
+halts-longer outcome.Endless e s m more given h = stops-longer outcome.Endless e s m more given h
+halts-longer outcome.ReadFault e s m more given h = stops-longer outcome.ReadFault e s m more given h
 
--- the same, behind the first bytes of a piece
-pub halts-piece : (o : EngineOutcome) (e : Engine) (s : Settings) (a b : Option (List ℕ)) (k n : Option ℕ) (m given piece : List ℕ) (used : ℕ)
-    → Halts o e s a b k n (m ++ take used piece) given false → Halts o e s a b k n (m ++ piece) given false
-halts-piece o e s a b k n m given piece used h =
-    subst (λ (x : List ℕ). Halts o e s a b k n x given false)
+-- the same, after the first bytes of a piece
+pub halts-piece : (o : EngineOutcome) (e : Engine) (s : Settings) (m piece given : List ℕ) (used : ℕ)
+    → Halts o e s (m ++ take used piece) false given → Halts o e s (m ++ piece) false given
+halts-piece o e s m piece given used h =
+    subst (λ (x : List ℕ). Halts o e s x false given)
     (append_assoc m (take used piece) (drop used piece) ∙ ap (λ t. m ++ t) (take-append-drop used piece))
-    (halts-longer o e s a b k n (m ++ take used piece) (drop used piece) given h)
+    (halts-longer o e s (m ++ take used piece) (drop used piece) given h)
 
 -- more of a response head
-pub response-more : (asked : Asked) (e e' : Engine) (s : Settings) (m given front : List ℕ) → HasOpenResponse asked e s m given → IsSameHead e e'
-    → e'.head ≡ e.head ++ front → IsOpenHead e'.head → e'.taken ≡ e.taken + length front
-    → HasOpenResponse asked e' s (m ++ front) given
-response-more asked e e' s m given front h same head open_ taken = record {
+pub response-longer : (IsText : List ℕ → Type 0) (asked : Asked) (e e' : Engine) (s : Settings) (m given prefix : List ℕ)
+    → HasResponse IsOpenHead asked e s m given → IsSameHead e e' → e'.head ≡ e.head ++ prefix → IsText e'.head
+    → e'.taken ≡ e.taken + length prefix → HasResponse IsText asked e' s (m ++ prefix) given
+response-longer IsText asked e e' s m given prefix h same head text taken = record {
   items = h.items;
   request = h.request;
-  head = h.head ++ front;
-  spells = ap (λ x. x ++ front) h.spells ∙ spell_items-append h.items (h.request.bytes ++ h.head) front
-      ∙ ap (spell_items h.items) (append_assoc h.request.bytes h.head front);
+  head = h.head ++ prefix;
+  spells = ap (λ x. x ++ prefix) h.spells ∙ spell_items-append h.items (h.request.bytes ++ h.head) prefix
+      ∙ ap (spell_items h.items) (append_assoc h.request.bytes h.head prefix);
   whole = h.whole;
   good = h.good;
-  text = subst (λ (x : List ℕ). IsOpenHead x) (head ∙ ap (λ x. x ++ front) h.buffer) open_;
-  buffer = head ∙ ap (λ x. x ++ front) h.buffer;
+  text = subst IsText (head ∙ ap (λ x. x ++ prefix) h.buffer) text;
+  buffer = head ∙ ap (λ x. x ++ prefix) h.buffer;
   media = same.media ∙ h.media;
   writer = rw same.writer h.writer;
   asks = h.asks;
   state = h.state;
   place = h.place;
   gave = ap (λ x. given ++ x) (box-same e e' same) ∙ h.gave;
-  taken = omega (arith, taken, h.taken, length-append m front);
+  taken = omega (arith, taken, h.taken, length-append m prefix);
   common = common-same e e' s h.items given same h.common;
 }
 
-pub response-whole : (asked : Asked) (e e' : Engine) (s : Settings) (m given front : List ℕ) → HasOpenResponse asked e s m given → IsSameHead e e'
-    → e'.head ≡ e.head ++ front → IsHeadText e'.head → e'.taken ≡ e.taken + length front
-    → HasWholeResponse asked e' s (m ++ front) given
-response-whole asked e e' s m given front h same head text taken = record {
-  items = h.items;
-  request = h.request;
-  head = h.head ++ front;
-  spells = ap (λ x. x ++ front) h.spells ∙ spell_items-append h.items (h.request.bytes ++ h.head) front
-      ∙ ap (spell_items h.items) (append_assoc h.request.bytes h.head front);
-  whole = h.whole;
-  good = h.good;
-  text = subst (λ (x : List ℕ). IsHeadText x) (head ∙ ap (λ x. x ++ front) h.buffer) text;
-  buffer = head ∙ ap (λ x. x ++ front) h.buffer;
-  media = same.media ∙ h.media;
-  writer = rw same.writer h.writer;
-  asks = h.asks;
-  state = h.state;
-  place = h.place;
-  gave = ap (λ x. given ++ x) (box-same e e' same) ∙ h.gave;
-  taken = omega (arith, taken, h.taken, length-append m front);
-  common = common-same e e' s h.items given same h.common;
-}
-
-pub response-long : (asked : Asked) (e e' : Engine) (s : Settings) (a : Option (List ℕ)) (k : Option ℕ) (m given front rest : List ℕ)
-    → HasOpenResponse asked e s m given → IsSameHead e e' → e'.head ≡ e.head ++ front → IsLongHead e'.head → Gains a a k k []
-    → Stops e' s a a k k (m ++ (front ++ rest)) given false (outcome.HeadLimit asked.place)
+pub response-long : (asked : Asked) (e e' : Engine) (s : Settings) (m given prefix rest : List ℕ) → HasResponse IsOpenHead asked e s m given
+    → IsSameHead e e' → e'.head ≡ e.head ++ prefix → IsLongHead e'.head
+    → Stops (outcome.HeadLimit asked.place) e' s (m ++ (prefix ++ rest)) false given
 unfolding stop_of
-response-long asked e e' s a k m given front rest h same head long none =
-    quiet-stops e e' s a k (m ++ (front ++ rest)) given h.items (cut.LongResponse h.request (h.head ++ front)) rest (outcome.HeadLimit asked.place)
+response-long asked e e' s m given prefix rest h same head long =
+    quiet-stops (outcome.HeadLimit asked.place) e' s (m ++ (prefix ++ rest)) given false h.items (cut.LongResponse h.request (h.head ++ prefix)) rest
     (record {
-      spells = ap (λ x. x ++ (front ++ rest)) h.spells ∙ spell_items-append h.items (h.request.bytes ++ h.head) (front ++ rest)
-          ∙ ap (spell_items h.items) (append_assoc h.request.bytes h.head (front ++ rest)
-          ∙ ap (λ t. h.request.bytes ++ t) (sym (append_assoc h.head front rest)));
+      spells = ap (λ x. x ++ (prefix ++ rest)) h.spells ∙ spell_items-append h.items (h.request.bytes ++ h.head) (prefix ++ rest)
+          ∙ ap (spell_items h.items) (append_assoc h.request.bytes h.head (prefix ++ rest)
+          ∙ ap (λ t. h.request.bytes ++ t) (sym (append_assoc h.head prefix rest)));
       items = h.whole;
-      tail = (h.good, subst (λ (x : List ℕ). IsLongHead x) (head ∙ ap (λ x. x ++ front) h.buffer) long);
+      tail = (h.good, subst (λ (x : List ℕ). IsLongHead x) (head ∙ ap (λ x. x ++ prefix) h.buffer) long);
       last = λ never. absurd (cc never);
-    }) refl refl (ap (λ p. ends.HeadLimit p) (sym h.place)) none
+    }) refl refl (ap (λ p. ends.HeadLimit p) (sym h.place))
     (ap (λ x. given ++ x) (box-same e e' same) ∙ h.gave) (same.counts ∙ h.common.counts) (rw same.told h.common.told)
 
 -- the response head is refused
-pub response-bad : (asked : Asked) (e e' : Engine) (s : Settings) (a : Option (List ℕ)) (k : Option ℕ) (m given : List ℕ) (kind : BadKind)
-    → HasWholeResponse asked e s m given → IsSameHead e e' → ReadsResponseHead e.head asked.asks.is_head (Err kind) → Gains a a k k []
-    → Stops e' s a a k k m given false (outcome.Bad kind asked.place)
+pub response-bad : (asked : Asked) (e e' : Engine) (s : Settings) (m given : List ℕ) (kind : BadKind) → HasResponse IsHeadText asked e s m given
+    → IsSameHead e e' → ReadsResponseHead e.head asked.asks.is_head (Err kind) → Stops (outcome.Bad kind asked.place) e' s m false given
 unfolding stop_of
-response-bad asked e e' s a k m given kind h same reads none =
-    quiet-stops e e' s a k m given h.items (cut.BadResponse h.request h.head kind) [] (outcome.Bad kind asked.place)
+response-bad asked e e' s m given kind h same reads =
+    quiet-stops (outcome.Bad kind asked.place) e' s m given false h.items (cut.BadResponse h.request h.head kind) []
     (record {
       spells = h.spells ∙ ap (λ x. spell_items h.items (h.request.bytes ++ x)) (sym (append-nil h.head));
       items = h.whole;
       tail = (h.good, h.text, rw (← h.buffer, ← h.asks) reads);
       last = λ never. absurd (cc never);
-    }) refl refl (ap (λ p. ends.Bad kind p) (sym h.place)) none
+    }) refl refl (ap (λ p. ends.Bad kind p) (sym h.place))
     (ap (λ x. given ++ x) (box-same e e' same) ∙ h.gave) (same.counts ∙ h.common.counts) (rw same.told h.common.told)
 
 -- the decider is made for the response as the recording has it
@@ -491,10 +420,10 @@ new-judged asked d f c s head state asks state_is asks_is same well =
     (subst (λ (m : MediaState). P m asked.asks.opaque c) state_is well.new))
 
 -- the response head is good
-pub response-good : (asked : Asked) (d : Decider) (f : BodyFrame) (e e' : Engine) (s : Settings) (m given : List ℕ)
-    → HasWholeResponse asked e s m given → IsSameHead e e' → e'.head ≡ e.head → e'.taken ≡ e.taken
-    → ReadsWell asked e.writer.settings e.head d f → HasReadHeads asked d f e' s m given
-response-good asked d f e e' s m given h same head taken well =
+pub response-good : (asked : Asked) (read : Decider × BodyFrame) (e e' : Engine) (s : Settings) (m given : List ℕ)
+    → HasResponse IsHeadText asked e s m given → IsSameHead e e' → e'.head ≡ e.head → e'.taken ≡ e.taken
+    → ReadsWell asked e.writer.settings e.head read.0 read.1 → HasReadHeads asked read e' s m given
+response-good asked read e e' s m given h same head taken well =
     let same_settings = h.common.settings in
     record {
       whole = record {
@@ -520,7 +449,7 @@ response-good asked d f e e' s m given h same head taken well =
         status = status_code well.tree;
         fields = pairs_of well.tree.fields;
         essence = well.essence;
-        frame = f;
+        frame = read.1;
       };
       bytes = refl;
       good = record {
@@ -533,13 +462,11 @@ response-good asked d f e e' s m given h same head taken well =
         essence = well.states;
       };
       frame_is = refl;
-      new = record { reads = new-judged asked d f e.writer.settings s e.head _ h.request.asks h.state h.asks same_settings well; limit = refl };
+      new = record { reads = new-judged asked read.0 read.1 e.writer.settings s e.head _ h.request.asks h.state h.asks same_settings well; limit = refl };
     }
 
--- what a step that took the first bytes of a piece says of them
-pub takes-goes : (e : Engine) (s : Settings) (a b : Option (List ℕ)) (k n : Option ℕ) (m given piece : List ℕ) (used : ℕ)
-    → Takes e s a b k n m given piece used → (used ≤ length piece) × Goes e s a b k n (m ++ take used piece) given
-takes-goes e s a b k n m given piece used t =
-    let front : take used piece ≡ t.front =
-    ap (take used) t.is ∙ ap (λ i. take i (t.front ++ t.rest)) (sym t.size_) ∙ take-append_seam t.front t.rest in
-    (omega (arith, ap length t.is, length-append t.front t.rest, t.size_), subst (λ (x : List ℕ). Goes e s a b k n (m ++ x) given) (sym front) t.goes)
+-- a step that took all of a piece
+pub taken-all : (e : Engine) (s : Settings) (m piece given : List ℕ) → Reads e s (m ++ piece) given
+    → (length piece ≤ length piece) × Reads e s (m ++ take (length piece) piece) given
+taken-all e s m piece given reads =
+    (omega arith, subst (λ (x : List ℕ). Reads e s (m ++ x) given) (sym (take-length piece)) reads)

@@ -1,7 +1,7 @@
 -- Two cuttings of the same bytes, or of bytes and of longer ones.
 use Rattle.std.proofs.Common.{◌≡◌, ℕ, ◌+◌, true, false, List, [], ◌∷◌, ◌++◌, refl, sym, ap, subst, ◌∙◌, append_assoc}
 use Rattle.orb_io.specs.Told.{IsPrefix}
-use Rattle.orb_io.proofs.ToldLemmas.{IsPrefix-append, IsPrefix-behind, IsPrefix-trans}
+use Rattle.orb_io.proofs.ToldLemmas.{IsPrefix-append, IsPrefix-after, IsPrefix-trans}
 use Rattle.media_state.specs.Table.{States}
 use Rattle.orb_engine.specs.declared.settings.Settings.{Settings}
 use Rattle.orb_engine.specs.Heads.{exchange_of}
@@ -73,7 +73,7 @@ grows_behind s table i items t jtems u g = record {
       let p : IsPrefix
       (w ++ (written_items s behind (before + 1) items ++ written_tail s (table_behind behind items) number false t))
       (w ++ (written_items s behind (before + 1) jtems ++ written_tail s (table_behind behind jtems) count false u)) =
-      IsPrefix-behind w _ _ (g.grows (before + 1) number count) in
+      IsPrefix-after w _ _ (g.grows (before + 1) number count) in
       (p.0, append_assoc w _ _ ∙ p.1 ∙ ap (λ l. l ++ p.0) (sym (append_assoc w _ _)));
 }
 

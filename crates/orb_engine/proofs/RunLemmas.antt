@@ -6,8 +6,8 @@ use Rattle.std.proofs.lemmas.Bool.Decides.{nat_tests}
 use Rattle.std.proofs.Math.Seq.{take-append_seam}
 use Rattle.std.specs.FinMap as map
 use Rattle.orb_io.specs.declared.outside.Failed.{Failed}
-use Rattle.orb_io.specs.Told.{Loses, IsAtEnd, Gains, HasCause, Pulls}
-use Rattle.orb_io.proofs.ToldLemmas.{Gains-twice, Loses-twice}
+use Rattle.orb_io.specs.Told.{Loses, IsAtEnd, HasCause, Pulls}
+use Rattle.orb_io.proofs.ToldLemmas.{Loses-twice}
 use Rattle.media_state.specs.Table.{States}
 use Rattle.orb_engine.specs.declared.settings.Settings.{Settings}
 use Rattle.orb_engine.specs.declared.engine.Engine.{Engine}
@@ -15,11 +15,11 @@ use Rattle.orb_engine.specs.declared.outcome.EngineOutcome.{EngineOutcome}
 use Rattle.orb_engine.specs.declared.outcome.EngineOutcome.TheVariants as outcome
 use Rattle.orb_engine.specs.Recording as cut
 use Rattle.orb_engine.specs.Recording.{Tail, Recording}
-use Rattle.orb_engine.specs.Ends.{End, Open}
+use Rattle.orb_engine.specs.Ends.{Open}
 use Rattle.orb_engine.specs.Counts.{rules_of, rules_of_items, rules_of_tail, count_allowed, count_blocked}
 use Rattle.orb_engine.specs.Boxes.{BoxState}
-use Rattle.orb_engine.specs.Reads.{IsStop, HaltCause, open_cut}
-use Rattle.orb_engine.specs.Runs.{run_limit, HasRead, Ends, Fails, FeedAnswers, FeedCauses, EndAnswers, RunAnswers, RunCauses, Ran}
+use Rattle.orb_engine.specs.Reads.{HaltCause, open_cut}
+use Rattle.orb_engine.specs.Runs.{run_limit, HasRead, Ends, EndsAs, FeedAnswers, FeedCauses, RunAnswers, RunCauses, Ran}
 use Rattle.orb_engine.specs.Turns.{piece_of, is_ended, TurnAnswers, TurnCauses, Running}
 use Rattle.orb_engine.proofs.AnswerLaws.{opens-stop}
 
@@ -35,14 +35,11 @@ rules-items s r =
     ap (λ l. rules_of_items r.items ++ l) (tail-no_rules s (cut.table_behind map.empty r.items) r.tail)
     ∙ append-nil (rules_of_items r.items)
 
-pub read-ends : (e : Engine) (s : Settings) (a b : Option (List ℕ)) (k n : Option ℕ) (m given : List ℕ) → HasRead e s m given
-    → Gains a b k n given → Ends e s a b k n m [] false (λ stop. stop ≡ Open)
-read-ends e s a b k n m given r gained =
+pub read-ends : (e : Engine) (s : Settings) (m given : List ℕ) → HasRead e s m given → Ends e s m false (λ stop. stop ≡ Open) given
+read-ends e s m given r =
     let cutting = open_cut r.reads.items r.reads.tail in
     let counts = r.reads.common.counts ∙ ap (λ rules. record { allowed = count_allowed rules; blocked = count_blocked rules }) (sym (rules-items s cutting)) in
     record {
-      more = given;
-      gained = gained;
       recording = cutting;
       cut = r.reads.cut;
       stop = (opens-stop s cutting).1 r.reads.open_;
@@ -53,53 +50,20 @@ read-ends e s a b k n m given r gained =
       };
     }
 
--- ---- behind what was given before
+feed-answers : (r : Option EngineOutcome) (e : Engine) (s : Settings) (m given : List ℕ) → FeedAnswers r e s m given
+    → TurnAnswers r e s m false given
+feed-answers None e s m given x = x.1
+feed-answers (Some outcome.WriteFault) e s m given x = x
+feed-answers (Some outcome.Endless) e s m given x = absurd x.stop
+feed-answers (Some outcome.ReadFault) e s m given x = absurd x.stop
+feed-answers (Some r) e s m given x = x
 
-ends-behind : (e : Engine) (s : Settings) (a b c : Option (List ℕ)) (k n o : Option ℕ) (m given : List ℕ) (ended : Bool) (P : End → Type 0)
-    → Gains a b k n given → Ends e s b c n o m given ended P → Ends e s a c k o m [] ended P
-ends-behind e s a b c k n o m given ended P gained x = record {
-  more = given ++ x.more;
-  gained = Gains-twice a b c k n o given x.more gained x.gained;
-  recording = x.recording;
-  cut = x.cut;
-  stop = x.stop;
-  gave = x.gave;
-  counted = x.counted;
-}
-
-fails-behind : (e : Engine) (s : Settings) (a b c : Option (List ℕ)) (k n o : Option ℕ) (m given : List ℕ) (ended : Bool)
-    → Gains a b k n given → Fails e s b c n o m given ended → Fails e s a c k o m [] ended
-fails-behind e s a b c k n o m given ended gained x = record {
-  more = given ++ x.more;
-  gained = Gains-twice a b c k n o given x.more gained x.gained;
-  seen = x.seen;
-  unseen = x.unseen;
-  all = x.all;
-  all_seen = x.all_seen;
-  recording = x.recording;
-  cut = x.cut;
-  within = x.within;
-  counted = x.counted;
-}
-
-feed-answers : (r : Option EngineOutcome) (e : Engine) (s : Settings) (a b c : Option (List ℕ)) (k n o : Option ℕ) (m given : List ℕ)
-    → Gains a b k n given → FeedAnswers r e s b c n o m given → TurnAnswers r e s a c k o m false
-feed-answers None e s a b c k n o m given gained x = record {
-  given = given ++ x.ends.more;
-  reads = x.reads;
-  gained = Gains-twice a b c k n o given x.ends.more gained x.ends.gained;
-}
-feed-answers (Some outcome.WriteFault) e s a b c k n o m given gained x = fails-behind e s a b c k n o m given false gained x
-feed-answers (Some outcome.Endless) e s a b c k n o m given gained x = absurd x.stop
-feed-answers (Some outcome.ReadFault) e s a b c k n o m given gained x = absurd x.stop
-feed-answers (Some r) e s a b c k n o m given gained x = ends-behind e s a b c k n o m given false (IsStop r) gained x
-
-end-answers : (r : EngineOutcome) (e : Engine) (s : Settings) (a b c : Option (List ℕ)) (k n o : Option ℕ) (m given : List ℕ)
-    → Gains a b k n given → EndAnswers r e s b c n o m given → RunAnswers r e s a c k o m true
-end-answers outcome.WriteFault e s a b c k n o m given gained x = fails-behind e s a b c k n o m given true gained x
-end-answers outcome.Endless e s a b c k n o m given gained x = absurd x.stop
-end-answers outcome.ReadFault e s a b c k n o m given gained x = absurd x.stop
-end-answers r e s a b c k n o m given gained x = ends-behind e s a b c k n o m given true (IsStop r) gained x
+end-answers : (r : EngineOutcome) (e : Engine) (s : Settings) (m given : List ℕ) → EndsAs r e s m true given
+    → RunAnswers r e s m true given
+end-answers outcome.WriteFault e s m given x = x
+end-answers outcome.Endless e s m given x = absurd x.stop
+end-answers outcome.ReadFault e s m given x = absurd x.stop
+end-answers r e s m given x = x
 
 -- ---- a turn
 
@@ -118,75 +82,72 @@ not_zero : (n : ℕ) → (n ≡ 0 → ⊥) → (n == 0) ≡ false
 not_zero n h = grind (arith, nat_tests)
 
 -- the pull found the end
-pub turn-end : (p : Result ℕ Failed) (r : EngineOutcome) (e : Engine) (s : Settings) (a b c : Option (List ℕ)) (k n o : Option ℕ) (m given room : List ℕ)
-    → p ≡ Ok 0 → Gains a b k n given → EndAnswers r e s b c n o m given
-    → RunAnswers r e s a c k o (m ++ piece_of p room) (is_ended p)
-turn-end p r e s a b c k n o m given room is gained x =
-    subst (λ (q : Result ℕ Failed). RunAnswers r e s a c k o (m ++ piece_of q room) (is_ended q)) (sym is)
-    (subst (λ (t : List ℕ). RunAnswers r e s a c k o t true) (sym (ap (λ t. m ++ t) (take_none room) ∙ append-nil m))
-    (end-answers r e s a b c k n o m given gained x))
+pub turn-end : (p : Result ℕ Failed) (r : EngineOutcome) (e : Engine) (s : Settings) (m given room : List ℕ) → p ≡ Ok 0
+    → EndsAs r e s m true given → RunAnswers r e s (m ++ piece_of p room) (is_ended p) given
+turn-end p r e s m given room is x =
+    subst (λ (q : Result ℕ Failed). RunAnswers r e s (m ++ piece_of q room) (is_ended q) given) (sym is)
+    (subst (λ (t : List ℕ). RunAnswers r e s t true given) (sym (ap (λ t. m ++ t) (take_none room) ∙ append-nil m))
+    (end-answers r e s m given x))
 
 -- the pull gave some bytes
-pub turn-feed : (p : Result ℕ Failed) (count : ℕ) (r : Option EngineOutcome) (e : Engine) (s : Settings) (a b c : Option (List ℕ)) (k n o : Option ℕ) (m given room : List ℕ)
-    → p ≡ Ok count → (count ≡ 0 → ⊥) → Gains a b k n given → FeedAnswers r e s b c n o (m ++ take count room) given
-    → TurnAnswers r e s a c k o (m ++ piece_of p room) (is_ended p)
-turn-feed p count r e s a b c k n o m given room is some gained x =
-    subst (λ (q : Result ℕ Failed). TurnAnswers r e s a c k o (m ++ piece_of q room) (is_ended q)) (sym is)
-    (subst (λ (t : Bool). TurnAnswers r e s a c k o (m ++ take count room) t) (sym (not_zero count some))
-    (feed-answers r e s a b c k n o (m ++ take count room) given gained x))
+pub turn-feed : (p : Result ℕ Failed) (count : ℕ) (r : Option EngineOutcome) (e : Engine) (s : Settings) (m given room : List ℕ)
+    → p ≡ Ok count → (count ≡ 0 → ⊥) → FeedAnswers r e s (m ++ take count room) given
+    → TurnAnswers r e s (m ++ piece_of p room) (is_ended p) given
+turn-feed p count r e s m given room is some x =
+    subst (λ (q : Result ℕ Failed). TurnAnswers r e s (m ++ piece_of q room) (is_ended q) given) (sym is)
+    (subst (λ (t : Bool). TurnAnswers r e s (m ++ take count room) t given) (sym (not_zero count some))
+    (feed-answers r e s (m ++ take count room) given x))
 
 limit-is : run_limit ≡ 2 ^ 62
 unfolding run_limit
 limit-is = refl
 
 -- the pull gave some bytes past the last that a run takes
-pub turn-endless : (p : Result ℕ Failed) (count : ℕ) (e : Engine) (s : Settings) (a b : Option (List ℕ)) (k n : Option ℕ) (m given room : List ℕ)
-    → p ≡ Ok count → (count ≡ 0 → ⊥) → count ≤ length room → e.taken ≡ 2 ^ 62 → HasRead e s m given → Gains a b k n given
-    → RunAnswers outcome.Endless e s a b k n (m ++ piece_of p room) (is_ended p)
-turn-endless p count e s a b k n m given room is some within full r gained =
+pub turn-endless : (p : Result ℕ Failed) (count : ℕ) (e : Engine) (s : Settings) (m given room : List ℕ) → p ≡ Ok count
+    → (count ≡ 0 → ⊥) → count ≤ length room → e.taken ≡ 2 ^ 62 → HasRead e s m given
+    → RunAnswers outcome.Endless e s (m ++ piece_of p room) (is_ended p) given
+turn-endless p count e s m given room is some within full r =
     let size : run_limit ≡ length m = limit-is ∙ sym full ∙ r.reads.taken in
-    let front : take run_limit (m ++ take count room) ≡ m = ap (λ j. take j (m ++ take count room)) size ∙ take-append_seam m (take count room) in
-    subst (λ (q : Result ℕ Failed). RunAnswers outcome.Endless e s a b k n (m ++ piece_of q room) (is_ended q)) (sym is) (
+    let first : take run_limit (m ++ take count room) ≡ m = ap (λ j. take j (m ++ take count room)) size ∙ take-append_seam m (take count room) in
+    subst (λ (q : Result ℕ Failed). RunAnswers outcome.Endless e s (m ++ piece_of q room) (is_ended q) given) (sym is) (
       omega (arith, size, length-append m (take count room), length-take-le count room within, some),
       not_zero count some,
-      subst (λ (t : List ℕ). Ends e s a b k n t [] false (λ stop. stop ≡ Open)) (sym front) (read-ends e s a b k n m given r gained),
+      subst (λ (t : List ℕ). Ends e s t false (λ stop. stop ≡ Open) given) (sym first) (read-ends e s m given r),
     )
 
 -- the pull failed
-pub turn-fault : (p : Result ℕ Failed) (failed : Failed) (e : Engine) (s : Settings) (a b : Option (List ℕ)) (k n : Option ℕ) (m given room : List ℕ)
-    → p ≡ Err failed → HasRead e s m given → Gains a b k n given
-    → RunAnswers outcome.ReadFault e s a b k n (m ++ piece_of p room) (is_ended p)
-turn-fault p failed e s a b k n m given room is r gained =
-    subst (λ (q : Result ℕ Failed). RunAnswers outcome.ReadFault e s a b k n (m ++ piece_of q room) (is_ended q)) (sym is)
-    (refl, subst (λ (t : List ℕ). Ends e s a b k n t [] false (λ stop. stop ≡ Open)) (sym (append-nil m)) (read-ends e s a b k n m given r gained))
+pub turn-fault : (p : Result ℕ Failed) (failed : Failed) (e : Engine) (s : Settings) (m given room : List ℕ) → p ≡ Err failed
+    → HasRead e s m given → RunAnswers outcome.ReadFault e s (m ++ piece_of p room) (is_ended p) given
+turn-fault p failed e s m given room is r =
+    subst (λ (q : Result ℕ Failed). RunAnswers outcome.ReadFault e s (m ++ piece_of q room) (is_ended q) given) (sym is)
+    (refl, subst (λ (t : List ℕ). Ends e s t false (λ stop. stop ≡ Open) given) (sym (append-nil m)) (read-ends e s m given r))
 
 -- ---- causes
 
 ok-cause : (p : Result ℕ Failed) (n before after : ℕ) → p ≡ Ok n → HasCause before after p → after ≡ before
 ok-cause p n before after is cause = subst (λ (q : Result ℕ Failed). HasCause before after q) is cause
 
-end-cause : (r : EngineOutcome) (e : Engine) (s : Settings) (b c : Option (List ℕ)) (n o : Option ℕ) (m given : List ℕ) (i j x y : ℕ)
-    → EndAnswers r e s b c n o m given → j ≡ i → HaltCause r x y → RunCauses r i j x y
-end-cause outcome.WriteFault e s b c n o m given i j x y h source sink = (source, sink)
-end-cause outcome.ReadFault e s b c n o m given i j x y h source sink = absurd h.stop
-end-cause r e s b c n o m given i j x y h source sink = (source, sink)
+end-cause : (r : EngineOutcome) (e : Engine) (s : Settings) (m given : List ℕ) (i j x y : ℕ) → EndsAs r e s m true given → j ≡ i
+    → HaltCause r x y → RunCauses r i j x y
+end-cause outcome.WriteFault e s m given i j x y h source sink = (source, sink)
+end-cause outcome.ReadFault e s m given i j x y h source sink = absurd h.stop
+end-cause r e s m given i j x y h source sink = (source, sink)
 
-pub turn-end-cause : (p : Result ℕ Failed) (r : EngineOutcome) (e : Engine) (s : Settings) (b c : Option (List ℕ)) (n o : Option ℕ) (m given : List ℕ) (i j x y : ℕ)
-    → p ≡ Ok 0 → EndAnswers r e s b c n o m given → HaltCause r x y → HasCause i j p → RunCauses r i j x y
-turn-end-cause p r e s b c n o m given i j x y is h sink source =
-    end-cause r e s b c n o m given i j x y h (ok-cause p 0 i j is source) sink
+pub turn-end-cause : (p : Result ℕ Failed) (r : EngineOutcome) (e : Engine) (s : Settings) (m given : List ℕ) (i j x y : ℕ)
+    → p ≡ Ok 0 → EndsAs r e s m true given → HaltCause r x y → HasCause i j p → RunCauses r i j x y
+turn-end-cause p r e s m given i j x y is h sink source = end-cause r e s m given i j x y h (ok-cause p 0 i j is source) sink
 
-feed-cause : (r : Option EngineOutcome) (e : Engine) (s : Settings) (b c : Option (List ℕ)) (n o : Option ℕ) (m given : List ℕ) (i j x y : ℕ)
-    → FeedAnswers r e s b c n o m given → j ≡ i → FeedCauses r x y → TurnCauses r i j x y
-feed-cause None e s b c n o m given i j x y h source sink = (source, sink)
-feed-cause (Some outcome.WriteFault) e s b c n o m given i j x y h source sink = (source, sink)
-feed-cause (Some outcome.ReadFault) e s b c n o m given i j x y h source sink = absurd h.stop
-feed-cause (Some r) e s b c n o m given i j x y h source sink = (source, sink)
+feed-cause : (r : Option EngineOutcome) (e : Engine) (s : Settings) (m given : List ℕ) (i j x y : ℕ) → FeedAnswers r e s m given
+    → j ≡ i → FeedCauses r x y → TurnCauses r i j x y
+feed-cause None e s m given i j x y h source sink = (source, sink)
+feed-cause (Some outcome.WriteFault) e s m given i j x y h source sink = (source, sink)
+feed-cause (Some outcome.ReadFault) e s m given i j x y h source sink = absurd h.stop
+feed-cause (Some r) e s m given i j x y h source sink = (source, sink)
 
-pub turn-feed-cause : (p : Result ℕ Failed) (count : ℕ) (r : Option EngineOutcome) (e : Engine) (s : Settings) (b c : Option (List ℕ)) (n o : Option ℕ) (m given : List ℕ) (i j x y : ℕ)
-    → p ≡ Ok count → FeedAnswers r e s b c n o m given → FeedCauses r x y → HasCause i j p → TurnCauses r i j x y
-turn-feed-cause p count r e s b c n o m given i j x y is h sink source =
-    feed-cause r e s b c n o m given i j x y h (ok-cause p count i j is source) sink
+pub turn-feed-cause : (p : Result ℕ Failed) (count : ℕ) (r : Option EngineOutcome) (e : Engine) (s : Settings) (m given : List ℕ) (i j x y : ℕ)
+    → p ≡ Ok count → FeedAnswers r e s m given → FeedCauses r x y → HasCause i j p → TurnCauses r i j x y
+turn-feed-cause p count r e s m given i j x y is h sink source =
+    feed-cause r e s m given i j x y h (ok-cause p count i j is source) sink
 
 -- ---- the loop
 
@@ -205,30 +166,28 @@ pull-ended (Err failed) a b room some h ended = absurd (let no : false ≡ true 
 
 -- the run ends with this pull
 pub run-ends : (r : Option EngineOutcome) (o : EngineOutcome) (p : Result ℕ Failed) (e e' : Engine) (s : Settings)
-    (left left' left'' put put' put'' : Option (List ℕ)) (size size' size'' : Option ℕ) (room : List ℕ)
-    → r ≡ Some o → 0 < length room → (w : Running e s left left' put put' size size') → Pulls left' left'' p room
+    (left left' left'' : Option (List ℕ)) (room given given' : List ℕ) → r ≡ Some o → 0 < length room
+    → (w : Running e s left left' given) → Pulls left' left'' p room
     → ((o ≡ outcome.Endless → ⊥) → e.taken + length (piece_of p room) ≤ 2 ^ 62)
-    → TurnAnswers r e' s put put'' size size'' (w.read ++ piece_of p room) (is_ended p)
-    → Ran o e' s left left'' put put'' size size''
-run-ends r o p e e' s left left' left'' put put' put'' size size' size'' room is some w pulls within answers = record {
+    → TurnAnswers r e' s (w.read ++ piece_of p room) (is_ended p) given' → Ran o e' s left left'' given'
+run-ends r o p e e' s left left' left'' room given given' is some w pulls within answers = record {
   read = w.read ++ piece_of p room;
   ended = is_ended p;
   lost = Loses-twice left left' left'' w.read (piece_of p room) w.lost (pull-lost p left' left'' room pulls);
   at_end = pull-ended p left' left'' room some pulls;
-  fits = λ never. omega (arith, limit-is, within never, w.goes.reads.reads.taken, length-append w.read (piece_of p room));
-  answers = subst (λ (q : Option EngineOutcome). TurnAnswers q e' s put put'' size size'' (w.read ++ piece_of p room) (is_ended p)) is answers;
+  fits = λ never. omega (arith, limit-is, within never, w.reads.reads.taken, length-append w.read (piece_of p room));
+  answers = subst (λ (q : Option EngineOutcome). TurnAnswers q e' s (w.read ++ piece_of p room) (is_ended p) given') is answers;
 }
 
 -- it goes on
 pub run-goes : (r : Option EngineOutcome) (p : Result ℕ Failed) (e e' : Engine) (s : Settings)
-    (left left' left'' put put' put'' : Option (List ℕ)) (size size' size'' : Option ℕ) (room : List ℕ)
-    → r ≡ None → (w : Running e s left left' put put' size size') → Pulls left' left'' p room
-    → TurnAnswers r e' s put put'' size size'' (w.read ++ piece_of p room) (is_ended p)
-    → Running e' s left left'' put put'' size size''
-run-goes r p e e' s left left' left'' put put' put'' size size' size'' room is w pulls answers = record {
+    (left left' left'' : Option (List ℕ)) (room given given' : List ℕ) → r ≡ None
+    → (w : Running e s left left' given) → Pulls left' left'' p room
+    → TurnAnswers r e' s (w.read ++ piece_of p room) (is_ended p) given' → Running e' s left left'' given'
+run-goes r p e e' s left left' left'' room given given' is w pulls answers = record {
   read = w.read ++ piece_of p room;
   lost = Loses-twice left left' left'' w.read (piece_of p room) w.lost (pull-lost p left' left'' room pulls);
-  goes = subst (λ (q : Option EngineOutcome). TurnAnswers q e' s put put'' size size'' (w.read ++ piece_of p room) (is_ended p)) is answers;
+  reads = subst (λ (q : Option EngineOutcome). TurnAnswers q e' s (w.read ++ piece_of p room) (is_ended p) given') is answers;
 }
 
 pub causes-end : (r : Option EngineOutcome) (o : EngineOutcome) (i j x y : ℕ) → r ≡ Some o → TurnCauses r i j x y → RunCauses o i j x y
@@ -236,16 +195,3 @@ causes-end r o i j x y is h = subst (λ (q : Option EngineOutcome). TurnCauses q
 
 pub causes-go : (r : Option EngineOutcome) (i j x y : ℕ) → r ≡ None → TurnCauses r i j x y → (j ≡ i) × (y ≡ x)
 causes-go r i j x y is h = subst (λ (q : Option EngineOutcome). TurnCauses q i j x y) is h
-
--- ---- one object that is source and sink
-
-pub running-moved : (e : Engine) (s : Settings) (left left' put put' put'' : Option (List ℕ)) (size size' size'' : Option ℕ)
-    → put'' ≡ put' → size'' ≡ size' → Running e s left left' put put' size size' → Running e s left left' put put'' size size''
-running-moved e s left left' put put' put'' size size' size'' same_put same_size w =
-    subst (λ (l : Option (List ℕ)). Running e s left left' put l size size'') (sym same_put)
-    (subst (λ (j : Option ℕ). Running e s left left' put put' size j) (sym same_size) w)
-
-pub Ran-moved : (o : EngineOutcome) (e : Engine) (s : Settings) (left left' left'' put put' : Option (List ℕ)) (size size' : Option ℕ)
-    → left'' ≡ left' → Ran o e s left left' put put' size size' → Ran o e s left left'' put put' size size'
-Ran-moved o e s left left' left'' put put' size size' same h =
-    subst (λ (l : Option (List ℕ)). Ran o e s left l put put' size size') (sym same) h

@@ -1,10 +1,10 @@
--- Steps, one behind the other, and what a fault leaves.
+-- How much of a body was read, and what a fault in it leaves.
 use Rattle.std.proofs.Common.{◌≡◌, ◌⊎◌, ℕ, zero, suc, ◌+◌, ◌≤◌, Bool, true, false, List, [], ◌∷◌, ◌++◌, length, Option, None, Some, Result, Ok, Err, refl, sym, ap, subst, ◌∙◌, inl, inr, arith, append_assoc}
 use Rattle.std.specs.FinMap as map
 use Rattle.std.proofs.lemmas.List.{append-nil}
 use Rattle.std.proofs.lemmas.Bool.{false≢true}
-use Rattle.orb_io.specs.Told.{Gains, IsPrefix}
-use Rattle.orb_io.proofs.ToldLemmas.{Gains-twice, IsPrefix-all, IsPrefix-trans, IsPrefix-behind, IsPrefix-append}
+use Rattle.orb_io.specs.Told.{IsPrefix}
+use Rattle.orb_io.proofs.ToldLemmas.{IsPrefix-all, IsPrefix-trans, IsPrefix-after, IsPrefix-append}
 use Rattle.response_rules.specs.declared.rules.Rule.{Rule}
 use Rattle.response_rules.specs.Tables.{window_rule_of}
 use Rattle.response_rules.specs.Settled.{is_in_text}
@@ -21,19 +21,16 @@ use Rattle.http_exchange.specs.declared.unframing.Unframer.{Unframer}
 use Rattle.http_exchange.proofs.UnframerLemmas.{whole_read}
 use Rattle.orb_engine.specs.declared.settings.Settings.{Settings}
 use Rattle.orb_engine.specs.declared.engine.Engine.{Engine}
-use Rattle.orb_engine.specs.declared.outcome.EngineOutcome.{EngineOutcome}
-use Rattle.orb_engine.specs.declared.outcome.EngineOutcome.TheVariants as outcome
 use Rattle.orb_engine.specs.Heads.{Heads, AreHeads, exchange_of, judged_by}
 use Rattle.orb_engine.specs.Recording as cut
 use Rattle.orb_engine.specs.Recording.{Item, Recording, AreItems, IsRecording, spell_heads, spell_items}
 use Rattle.orb_engine.specs.Outputs.{output_of, written_items, written_front}
-use Rattle.orb_engine.specs.Writing.{box_of}
-use Rattle.orb_engine.specs.Reads.{open_cut, table_of, IsTold, Reads, Stops, Breaks, Goes, Halts, Settles}
+use Rattle.orb_engine.specs.Reads.{open_cut, table_of, IsTold, Breaks}
 use Rattle.orb_engine.proofs.CutLemmas.{spell_items-snoc, items-snoc}
 use Rattle.orb_engine.proofs.OutputLaws.{written_front-undecided}
 use Rattle.orb_engine.proofs.BodyLaws.{text-rule}
 use Rattle.orb_engine.proofs.ClosingLemmas.{front-in-whole}
-use Rattle.orb_engine.proofs.FillLemmas.{empty-open, output-undecided, output-sending, closed-written}
+use Rattle.orb_engine.proofs.FillLemmas.{empty-open, output-undecided, output-sending, closed-output}
 
 -- content is no longer than the bytes in which it is sent
 content-short : (k : List Mark) → length (content_of k) ≤ length (bytes_of k)
@@ -118,8 +115,8 @@ seen-body s m items h sent body u spells whole good front reads =
             last = λ _. refl;
           };
           within = subst (λ (t : List ℕ). IsPrefix (written_items s map.empty 0 items ++ written_front s.job (exchange_of s (table_of items) h) body) t)
-              (closed-written s items i)
-              (IsPrefix-behind (written_items s map.empty 0 items) _ _ (front-in-whole s.job (length items + 1) (exchange_of s (table_of items) h) body));
+              (closed-output s (record { items = items; heads = h; sent = sent; body = body }) r)
+              (IsPrefix-after (written_items s map.empty 0 items) _ _ (front-in-whole s.job (length items + 1) (exchange_of s (table_of items) h) body));
           others = i ∷ [];
           are = refl;
         }
@@ -144,12 +141,9 @@ seen-body s m items h sent body u spells whole good front reads =
     }
 
 -- a fault while a body was written
-pub breaks-body : (e : Engine) (s : Settings) (a b : Option (List ℕ)) (k n : Option ℕ) (m given pushed : List ℕ)
-    (items : List Item) (wrote : List ℕ) → Gains a b k n pushed → IsTold e.told s items given
-    → IsPrefix (given ++ pushed) wrote → IsSeen s m items wrote → Breaks e s a b k n m given false
-breaks-body e s a b k n m given pushed items wrote gained told within seen = record {
-  pushed = pushed;
-  gained = gained;
+pub breaks-body : (e : Engine) (s : Settings) (m given more : List ℕ) (items : List Item) (wrote : List ℕ)
+    → IsTold e.told s items given → IsPrefix (given ++ more) wrote → IsSeen s m items wrote → Breaks e s m false (given ++ more)
+breaks-body e s m given more items wrote told within seen = record {
   seen = m;
   unseen = [];
   all = sym (append-nil m);
@@ -162,68 +156,6 @@ breaks-body e s a b k n m given pushed items wrote gained told within seen = rec
     others = told.others ++ seen.others;
     are = seen.are ∙ ap (λ t. t ++ seen.others) told.are ∙ append_assoc told.front told.others seen.others;
     numbers = told.numbers;
-    whole = IsPrefix-trans _ given _ told.whole (IsPrefix-append given pushed);
+    whole = IsPrefix-trans _ given _ told.whole (IsPrefix-append given more);
   };
 }
-
--- behind what was pushed in the same call
-pub goes-behind : (e : Engine) (s : Settings) (a b c : Option (List ℕ)) (j k n : Option ℕ) (m given pushed : List ℕ)
-    → Gains a b j k pushed → Goes e s b c k n m (given ++ pushed) → Goes e s a c j n m given
-goes-behind e s a b c j k n m given pushed gained goes = record {
-  pushed = pushed ++ goes.pushed;
-  gained = Gains-twice a b c j k n pushed goes.pushed gained goes.gained;
-  reads = subst (λ (t : List ℕ). Reads e s m t) (append_assoc given pushed goes.pushed) goes.reads;
-}
-
-stops-behind : (e : Engine) (s : Settings) (a b c : Option (List ℕ)) (j k n : Option ℕ) (m given pushed : List ℕ) (ended : Bool) (o : EngineOutcome)
-    → Gains a b j k pushed → Stops e s b c k n m (given ++ pushed) ended o → Stops e s a c j n m given ended o
-stops-behind e s a b c j k n m given pushed ended o gained stops = record {
-  pushed = pushed ++ stops.pushed;
-  gained = Gains-twice a b c j k n pushed stops.pushed gained stops.gained;
-  recording = stops.recording;
-  cut = stops.cut;
-  stop = stops.stop;
-  gave = ap (λ t. t ++ (box_of e.writer).bytes) (sym (append_assoc given pushed stops.pushed)) ∙ stops.gave;
-  counts = stops.counts;
-  told = subst (λ (t : List ℕ). IsTold e.told s stops.recording.items t) (append_assoc given pushed stops.pushed) stops.told;
-}
-
-breaks-behind : (e : Engine) (s : Settings) (a b c : Option (List ℕ)) (j k n : Option ℕ) (m given pushed : List ℕ) (ended : Bool)
-    → Gains a b j k pushed → Breaks e s b c k n m (given ++ pushed) ended → Breaks e s a c j n m given ended
-breaks-behind e s a b c j k n m given pushed ended gained broken = record {
-  pushed = pushed ++ broken.pushed;
-  gained = Gains-twice a b c j k n pushed broken.pushed gained broken.gained;
-  seen = broken.seen;
-  unseen = broken.unseen;
-  all = broken.all;
-  all_seen = broken.all_seen;
-  recording = broken.recording;
-  cut = broken.cut;
-  within = subst (λ (t : List ℕ). IsPrefix t (output_of s broken.recording ended)) (append_assoc given pushed broken.pushed) broken.within;
-  told = subst (λ (t : List ℕ). IsTold e.told s broken.recording.items t) (append_assoc given pushed broken.pushed) broken.told;
-}
-
-pub halts-behind : (o : EngineOutcome) (e : Engine) (s : Settings) (a b c : Option (List ℕ)) (j k n : Option ℕ) (m given pushed : List ℕ) (ended : Bool)
-    → Gains a b j k pushed → Halts o e s b c k n m (given ++ pushed) ended → Halts o e s a c j n m given ended
-halts-behind outcome.WriteFault e s a b c j k n m given pushed ended gained h = breaks-behind e s a b c j k n m given pushed ended gained h
-halts-behind outcome.Done e s a b c j k n m given pushed ended gained h = stops-behind e s a b c j k n m given pushed ended outcome.Done gained h
-halts-behind (outcome.Bad kind at) e s a b c j k n m given pushed ended gained h = stops-behind e s a b c j k n m given pushed ended (outcome.Bad kind at) gained h
-halts-behind (outcome.Cut at) e s a b c j k n m given pushed ended gained h = stops-behind e s a b c j k n m given pushed ended (outcome.Cut at) gained h
-halts-behind (outcome.HeadLimit at) e s a b c j k n m given pushed ended gained h = stops-behind e s a b c j k n m given pushed ended (outcome.HeadLimit at) gained h
-halts-behind (outcome.MediaFull at) e s a b c j k n m given pushed ended gained h = stops-behind e s a b c j k n m given pushed ended (outcome.MediaFull at) gained h
-halts-behind (outcome.NotBuilt at) e s a b c j k n m given pushed ended gained h = stops-behind e s a b c j k n m given pushed ended (outcome.NotBuilt at) gained h
-halts-behind outcome.Endless e s a b c j k n m given pushed ended gained h = stops-behind e s a b c j k n m given pushed ended outcome.Endless gained h
-halts-behind outcome.ReadFault e s a b c j k n m given pushed ended gained h = stops-behind e s a b c j k n m given pushed ended outcome.ReadFault gained h
-
-pub settles-behind : (r : Result (Unit {0}) EngineOutcome) (e : Engine) (s : Settings) (a b c : Option (List ℕ)) (j k n : Option ℕ) (m given pushed : List ℕ)
-    → Gains a b j k pushed → Settles r e s b c k n m (given ++ pushed) → Settles r e s a c j n m given
-settles-behind (Ok done) e s a b c j k n m given pushed gained h = goes-behind e s a b c j k n m given pushed gained h
-settles-behind (Err o) e s a b c j k n m given pushed gained h = halts-behind o e s a b c j k n m given pushed false gained h
-
-pub goes-at : (e : Engine) (s : Settings) (a b : Option (List ℕ)) (k n : Option ℕ) (m m' given : List ℕ) → m ≡ m'
-    → Goes e s a b k n m given → Goes e s a b k n m' given
-goes-at e s a b k n m m' given same h = subst (λ (x : List ℕ). Goes e s a b k n x given) same h
-
-pub halts-at : (o : EngineOutcome) (e : Engine) (s : Settings) (a b : Option (List ℕ)) (k n : Option ℕ) (m m' given : List ℕ) (ended : Bool) → m ≡ m'
-    → Halts o e s a b k n m given ended → Halts o e s a b k n m' given ended
-halts-at o e s a b k n m m' given ended same h = subst (λ (x : List ℕ). Halts o e s a b k n x given ended) same h

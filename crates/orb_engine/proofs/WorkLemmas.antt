@@ -1,18 +1,13 @@
 -- What the two jobs put of one exchange.
-use Rattle.std.proofs.Common.{◌≡◌, ℕ, ◌+◌, ◌*◌, ◌^◌, ◌≤◌, ◌<◌, Bool, true, false, List, [], ◌++◌, length, length-append, lit≤, Option, Some, None, Result, Ok, Err, refl, sym, ap, subst, ◌∙◌, arith}
+use Rattle.std.proofs.Common.{◌≡◌, ℕ, ◌+◌, ◌*◌, ◌^◌, ◌≤◌, ◌<◌, Bool, true, false, List, [], length, length-append, lit≤, Option, Some, None, refl, sym, ap, subst, ◌∙◌, arith}
 use Rattle.body_filter.proofs.LawLemmas.{front-length, output-length}
-use Rattle.std.specs.Result.{OnOk, OnErr, IfOk}
-use Rattle.std.proofs.lemmas.List.{append-nil}
-use Rattle.orb_io.specs.Told.{Gains, GainsPrefix}
 use Rattle.response_rules.specs.declared.deciding.Decider.{Decider}
 use Rattle.response_rules.specs.declared.verdicts.Verdict.{Verdict}
 use Rattle.response_rules.specs.Tables.{window_rule_of}
 use Rattle.response_rules.specs.Reads.{HasRead as DeciderHasRead, IsVerdict}
 use Rattle.body_filter.specs.Exchanges.{Exchange, front_of, whole_of}
-use Rattle.body_filter.specs.Puts.{Makes, Falls}
-use Rattle.body_filter.specs.Reads.{HasRead as FilterHasRead, Feeds, limit_of}
+use Rattle.body_filter.specs.Reads.{HasRead as FilterHasRead, limit_of}
 use Rattle.body_filter.specs.declared.filtering.Filter.{Filter}
-use Rattle.body_filter.specs.declared.pushing.WriteFault.{WriteFault}
 use Rattle.orb_engine.specs.declared.settings.Settings.{Settings}
 use Rattle.orb_engine.specs.declared.settings.Job.{Job}
 use Rattle.orb_engine.specs.declared.settings.Job.TheVariants as job
@@ -30,7 +25,7 @@ use Rattle.response_rules.specs.Tables.{window_size}
 use Rattle.response_rules.specs.Settled.{is_in_text}
 use Rattle.response_rules.proofs.NameLemmas.{name-short}
 use Rattle.orb_engine.specs.Outputs.{state_name, verdict_name, line_of, line_by, written_front, written_whole}
-use Rattle.orb_engine.specs.Workers.{IsWorkerFor, WorkerReads, Works, Puts}
+use Rattle.orb_engine.specs.Workers.{IsWorkerFor, WorkerReads}
 
 pub front-filter : (j : Job) (x : Exchange) (m : List ℕ) → j ≡ job.Filter → written_front j x m ≡ front_of x m
 unfolding written_front
@@ -55,7 +50,7 @@ pub for-filter : (w : Worker) (f : Filter) (s : Settings) → w ≡ worker.Filte
 for-filter w f s is h = subst (λ (v : Worker). IsWorkerFor v s) is h
 
 pub reads-filter : (w : Worker) (f : Filter) (x : Exchange) (m : List ℕ) → w ≡ worker.Filters f → WorkerReads w x m
-    → (given : List ℕ) × FilterHasRead f x m given
+    → FilterHasRead f x m
 reads-filter w f x m is h = subst (λ (v : Worker). WorkerReads v x m) is h
 
 -- the worker explains
@@ -66,37 +61,6 @@ for-explain w d s is h = subst (λ (v : Worker). IsWorkerFor v s) is h
 pub reads-explain : (w : Worker) (d : Decider) (x : Exchange) (m : List ℕ) → w ≡ worker.Explains (Some d)
     → WorkerReads w x m → DeciderHasRead d x.head m
 reads-explain w d x m is h = subst (λ (v : Worker). WorkerReads v x m) is h
-
--- what a filter put is what is written
-pub filter-feeds : {T : Type 0} (r : Result T WriteFault) (f : Filter) (a b : Option (List ℕ)) (k n : Option ℕ)
-    (s : Settings) (x : Exchange) (m given : List ℕ) → (s.job ≡ job.Filter) × (limit_of f ≡ s.limit)
-    → OnOk r (Feeds f a b k n x m given) → OnErr r (Falls a b k n given (front_of x m))
-    → Puts r a b k n given (written_front s.job x m) (λ _. Works (worker.Filters f) s x m)
-filter-feeds (Ok v) f a b k n s x m given is_for ok err = (
-  record {
-    more = ok.more;
-    gained = ok.gained;
-    is = ok.reads.gave ∙ sym (front-filter s.job x m is_for.0);
-  },
-  record { is_for = is_for; reads = (given ++ ok.more, ok.reads) },
-)
-filter-feeds (Err e) f a b k n s x m given is_for ok err =
-    rw (front-filter s.job x m is_for.0) err
-
-pub filter-ends : (r : Result Verdict WriteFault) (a b : Option (List ℕ)) (k n : Option ℕ) (number : ℕ)
-    (s : Settings) (x : Exchange) (m given : List ℕ) → s.job ≡ job.Filter
-    → IfOk r (λ _. Makes a b k n given (whole_of x m)) → IfOk r (λ v. IsVerdict x.head m v)
-    → OnErr r (Falls a b k n given (whole_of x m))
-    → Puts r a b k n given (written_whole s.job number x m) (λ v. IsVerdict x.head m v)
-filter-ends (Ok v) a b k n number s x m given is makes verdict err =
-    (rw (whole-filter s.job number x m is) makes, verdict)
-filter-ends (Err e) a b k n number s x m given is makes verdict err =
-    rw (whole-filter s.job number x m is) err
-
--- nothing was put, and nothing is owed
-pub makes-none : (a : Option (List ℕ)) (k : Option ℕ) (given owed : List ℕ) → Gains a a k k [] → given ≡ owed
-    → Makes a a k k given owed
-makes-none a k given owed gained is = record { more = []; gained = gained; is = append-nil given ∙ is }
 
 -- the line that is owed
 pub line-owed : (number : ℕ) (x : Exchange) (m : List ℕ) (v : Verdict) → IsVerdict x.head m v
@@ -109,23 +73,6 @@ pub line-written : (number size : ℕ) (s : Settings) (x : Exchange) (m : List �
 line-written number size s x m v line is verdict sized line_is =
     line_is ∙ ap (line_of number v.rule v.state) sized
     ∙ sym (whole-explain s.job number x m is ∙ line-owed number x m v verdict)
-
--- the line was put, or a front of it
-pub line-put : (a b : Option (List ℕ)) (k n : Option ℕ) (given line owed : List ℕ) → given ≡ [] → line ≡ owed
-    → Gains a b k n line → Makes a b k n given owed
-line-put a b k n given line owed none is gained = record {
-  more = line;
-  gained = gained;
-  is = ap (λ t. t ++ line) none ∙ is;
-}
-
-pub line-broken : (a b : Option (List ℕ)) (k n : Option ℕ) (given line owed : List ℕ) → given ≡ [] → line ≡ owed
-    → GainsPrefix a b k n line → Falls a b k n given owed
-line-broken a b k n given line owed none is gained = record {
-  more = gained.0;
-  gained = gained.2;
-  within = (gained.1.0, sym is ∙ gained.1.1 ∙ ap (λ t. (t ++ gained.0) ++ gained.1.0) (sym none));
-}
 
 -- how much can be put
 pub front-most : (j : Job) (x : Exchange) (m : List ℕ) → length (written_front j x m) ≤ length x.bytes + 2 * length m + 128

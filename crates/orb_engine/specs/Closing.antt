@@ -1,7 +1,7 @@
 -- What closing an exchange does.
 use Rattle.std.specs.Prelude.{◌≡◌, ℕ, ◌+◌, List, [], ◌∷◌, ◌++◌, length, Option, Some, None, Result, Ok, Err}
 use Rattle.std.specs.FinMap as map
-use Rattle.orb_io.specs.Told.{Gains, IsPrefix}
+use Rattle.orb_io.specs.Told.{IsPrefix}
 use Rattle.response_rules.specs.declared.rules.Rule.{Rule}
 use Rattle.response_rules.specs.Tables.{window_rule_of}
 use Rattle.response_rules.specs.Rules.{state_behind}
@@ -10,75 +10,65 @@ use Rattle.orb_engine.specs.declared.engine.Engine.{Engine}
 use Rattle.orb_engine.specs.declared.engine.Stage.TheVariants as stage
 use Rattle.orb_engine.specs.declared.outcome.EngineOutcome.{EngineOutcome}
 use Rattle.orb_engine.specs.declared.outcome.EngineOutcome.TheVariants as outcome
-use Rattle.orb_engine.specs.Heads.{Heads, id_of, admits, keeps, state_of, judged_by, exchange_of}
-use Rattle.orb_engine.specs.Recording.{Item}
-use Rattle.orb_engine.specs.Outputs.{written_items, written_front, written_whole}
+use Rattle.orb_engine.specs.Heads.{id_of, admits, keeps, state_of, judged_by}
+use Rattle.orb_engine.specs.Outputs.{written_items, written_whole}
 use Rattle.orb_engine.specs.Counts.{rules_of_items}
-use Rattle.orb_engine.specs.Writing.{IsWriterFor, WriterReads, box_of}
-use Rattle.orb_engine.specs.Reads.{Common, IsTold, counts_of, table_of}
+use Rattle.orb_engine.specs.Writing.{IsWriterFor, WriterReads, gathered_by}
+use Rattle.orb_engine.specs.Reads.{Coming, coming_response, coming_written, Common, IsTold, counts_of, table_of}
+
+-- the rule of the head or the window that decides the exchange, if its body ends here
+abbrev pub coming_rule : Settings → Coming → Option Rule
+coming_rule s c = window_rule_of (judged_by s (table_of c.items) c.heads) c.body
+
+-- what is written of the exchanges before it and of it, if its body ends here
+abbrev pub closed_written : Settings → Coming → List ℕ
+closed_written s c =
+    written_items s map.empty 0 c.items ++ written_whole s.job (length c.items + 1) (coming_response s c) c.body
 
 -- the body of an exchange has come whole
-pub record IsClosing (e : Engine) (s : Settings) (items : List Item) (h : Heads) (body given : List ℕ) (id : Option ℕ) : Type 0
-  where
-    pub common : Common e s items given
-    pub gave : given ++ (box_of e.writer).bytes
-        ≡ written_items s map.empty 0 items ++ written_front s.job (exchange_of s (table_of items) h) body
-    pub writer : WriterReads e.writer s (exchange_of s (table_of items) h) body
-    pub media : e.media ≡ admits (table_of items) (id_of h.request.asks)
-    pub id_is : id ≡ id_of h.request.asks
+pub record IsClosing (e : Engine) (s : Settings) (c : Coming) (id : Option ℕ) (given : List ℕ) : Type 0 where
+  pub common : Common e s c.items given
+  pub gave : given ++ gathered_by e.writer ≡ coming_written s c
+  pub writer : WriterReads e.writer s (coming_response s c) c.body
+  pub media : e.media ≡ admits (table_of c.items) (id_of c.heads.request.asks)
+  pub id_is : id ≡ id_of c.heads.request.asks
 
--- what is written of the exchanges and of this one
-abbrev pub all_written : Settings → List Item → Heads → List ℕ → List ℕ
-all_written s items h body =
-    written_items s map.empty 0 items ++ written_whole s.job (length items + 1) (exchange_of s (table_of items) h) body
-
--- a rule decides it, and the engine is behind it
-pub record Closed (e : Engine) (s : Settings) (put put' : Option (List ℕ)) (size size' : Option ℕ) (items : List Item)
-    (h : Heads) (body given : List ℕ) : Type 0 where
-  pub pushed : List ℕ
-  pub gained : Gains put put' size size' pushed
+-- a rule decides it, and the engine is after it
+pub record Closed (e : Engine) (s : Settings) (c : Coming) (given : List ℕ) : Type 0 where
   pub rule : Rule
-  pub decided : window_rule_of (judged_by s (table_of items) h) body ≡ Some rule
-  pub gave : (given ++ pushed) ++ (box_of e.writer).bytes ≡ all_written s items h body
+  pub decided : coming_rule s c ≡ Some rule
+  pub gave : given ++ gathered_by e.writer ≡ closed_written s c
   pub settings : e.writer.settings ≡ s
-  pub counts : e.counts ≡ counts_of (rules_of_items items ++ (rule ∷ []))
-  pub told : IsTold e.told s items (given ++ pushed)
+  pub counts : e.counts ≡ counts_of (rules_of_items c.items ++ (rule ∷ []))
+  pub told : IsTold e.told s c.items given
   pub asking : e.stage ≡ stage.Asking
   pub head : e.head ≡ []
-  pub media : e.media ≡ keeps (table_of items) (id_of h.request.asks) (state_behind (state_of (table_of items) h) rule)
+  pub media : e.media ≡ keeps (table_of c.items) (id_of c.heads.request.asks) (state_behind (state_of (table_of c.items) c.heads) rule)
   pub writer : IsWriterFor e.writer s
   pub place : e.place ≡ e.taken
 
--- no rule that is built decides it, and nothing changed
-pub record Unclosed (e e' : Engine) (s : Settings) (put put' : Option (List ℕ)) (size size' : Option ℕ) (items : List Item)
-    (h : Heads) (body : List ℕ) : Type 0 where
-  pub same : e' ≡ e
-  pub gained : Gains put put' size size' []
-  pub undecided : window_rule_of (judged_by s (table_of items) h) body ≡ None
+-- no rule that is built decides it, and nothing was given of it
+pub record Undecided (e : Engine) (s : Settings) (c : Coming) (given : List ℕ) : Type 0 where
+  pub none : coming_rule s c ≡ None
+  pub gave : given ++ gathered_by e.writer ≡ coming_written s c
+  pub common : Common e s c.items given
 
 -- the sink failed
-pub record ClosedFalls (e : Engine) (s : Settings) (put put' : Option (List ℕ)) (size size' : Option ℕ) (items : List Item)
-    (h : Heads) (body given : List ℕ) : Type 0 where
-  pub pushed : List ℕ
-  pub gained : Gains put put' size size' pushed
+pub record ClosedBreaks (e : Engine) (s : Settings) (c : Coming) (given : List ℕ) : Type 0 where
   pub rule : Rule
-  pub decided : window_rule_of (judged_by s (table_of items) h) body ≡ Some rule
-  pub within : IsPrefix (given ++ pushed) (all_written s items h body)
-  pub told : IsTold e.told s items (given ++ pushed)
+  pub decided : coming_rule s c ≡ Some rule
+  pub within : IsPrefix given (closed_written s c)
+  pub told : IsTold e.told s c.items given
 
-abbrev pub Closes : Result (Unit {0}) EngineOutcome → ℕ → Engine → Engine → Settings → Option (List ℕ) → Option (List ℕ)
-    → Option ℕ → Option ℕ → List Item → Heads → List ℕ → List ℕ → Type 0
-Closes (Ok done) place e e' s put put' size size' items h body given = Closed e' s put put' size size' items h body given
-Closes (Err (outcome.NotBuilt at)) place e e' s put put' size size' items h body given =
-    (at ≡ place) × Unclosed e e' s put put' size size' items h body
-Closes (Err outcome.WriteFault) place e e' s put put' size size' items h body given =
-    ClosedFalls e' s put put' size size' items h body given
-Closes (Err _) place e e' s put put' size size' items h body given = ⊥
+-- what closing answers, where the response begins at this place
+abbrev pub Closes : Result (Unit {0}) EngineOutcome → (place : ℕ) → Engine → Settings → Coming → (given : List ℕ) → Type 0
+Closes (Ok done) place e s c given = Closed e s c given
+Closes (Err (outcome.NotBuilt at)) place e s c given = (at ≡ place) × Undecided e s c given
+Closes (Err outcome.WriteFault) place e s c given = ClosedBreaks e s c given
+Closes (Err _) place e s c given = ⊥
 
 -- the same, where a rule decides
-abbrev pub ClosesDecided : Result (Unit {0}) EngineOutcome → Engine → Settings → Option (List ℕ) → Option (List ℕ)
-    → Option ℕ → Option ℕ → List Item → Heads → List ℕ → List ℕ → Type 0
-ClosesDecided (Ok done) e s put put' size size' items h body given = Closed e s put put' size size' items h body given
-ClosesDecided (Err outcome.WriteFault) e s put put' size size' items h body given =
-    ClosedFalls e s put put' size size' items h body given
-ClosesDecided (Err _) e s put put' size size' items h body given = ⊥
+abbrev pub ClosesDecided : Result (Unit {0}) EngineOutcome → Engine → Settings → Coming → (given : List ℕ) → Type 0
+ClosesDecided (Ok done) e s c given = Closed e s c given
+ClosesDecided (Err outcome.WriteFault) e s c given = ClosedBreaks e s c given
+ClosesDecided (Err _) e s c given = ⊥

@@ -1,6 +1,5 @@
 -- Where nothing fails, a run over a whole recording reads all of it and writes all that is written of it.
 use Rattle.std.specs.Prelude.{◌≡◌, ℕ, ◌≤◌, Bool, true, List, [], length, Option, Some}
-use Rattle.orb_io.specs.Told.{Gains}
 use Rattle.orb_engine.specs.declared.settings.Settings.{Settings}
 use Rattle.orb_engine.specs.declared.outcome.EngineOutcome.{EngineOutcome}
 use Rattle.orb_engine.specs.declared.outcome.EngineOutcome.TheVariants as outcome
@@ -21,9 +20,9 @@ pub record IsAll (s : Settings) (r first : Recording) (ended : Bool) (rest : Lis
   pub none_left : rest ≡ []
   pub output : output_of s first ended ≡ output_of s r true
 
--- the answer is Done, all was read, and all that is written of the recording was written
-pub record IsComplete (o : EngineOutcome) (s : Settings) (r : Recording)
-    (left' put put' : Option (List ℕ)) (size size' : Option ℕ) : Type 0 where
-  pub done : o ≡ outcome.Done
-  pub left : left' ≡ Some []
-  pub wrote : Gains put put' size size' (output_of s r true)
+-- the answer is Done, all was read, and what was given is all that is written of the recording
+pub record IsComplete (o : EngineOutcome) (s : Settings) (r : Recording) (left' : Option (List ℕ)) (given : List ℕ) : Type 0
+  where
+    pub done : o ≡ outcome.Done
+    pub left : left' ≡ Some []
+    pub wrote : given ≡ output_of s r true

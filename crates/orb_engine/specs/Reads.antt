@@ -1,7 +1,7 @@
 -- What an engine has read of a recording, and what its calls answer.
-use Rattle.std.specs.Prelude.{◌≡◌, ℕ, ◌+◌, Bool, true, false, List, [], ◌++◌, length, Option, Result, Ok, Err, if◌then◌else◌}
+use Rattle.std.specs.Prelude.{◌≡◌, ℕ, ◌+◌, ◌≤◌, Bool, true, false, List, [], ◌++◌, length, take, Result, Ok, Err, if◌then◌else◌}
 use Rattle.std.specs.FinMap as map
-use Rattle.orb_io.specs.Told.{Gains, IsPrefix, Rose}
+use Rattle.orb_io.specs.Told.{IsPrefix, Rose}
 use Rattle.response_rules.specs.declared.rules.Rule.{Rule}
 use Rattle.media_state.specs.Table.{States}
 use Rattle.http_exchange.specs.Frames.{IsFront}
@@ -18,8 +18,9 @@ use Rattle.orb_engine.specs.declared.engine.Stage.TheVariants as stage
 use Rattle.orb_engine.specs.declared.outcome.EngineOutcome.{EngineOutcome}
 use Rattle.orb_engine.specs.declared.outcome.EngineOutcome.TheVariants as outcome
 use Rattle.response_rules.specs.declared.deciding.Decider.{Decider}
+use Rattle.body_filter.specs.Exchanges.{Exchange}
 use Rattle.http_exchange.specs.declared.frames.BodyFrame.{BodyFrame}
-use Rattle.orb_engine.specs.Texts.{IsHeadText, IsOpenHead}
+use Rattle.orb_engine.specs.Texts.{IsHeadText}
 use Rattle.orb_engine.specs.Heads.{Request, Response, Heads, AreHeads, IsRequestIn, IsResponseHead, id_of, admits, state_before, judged_by, exchange_of, is_to_end}
 use Rattle.orb_engine.specs.Recording as cut
 use Rattle.orb_engine.specs.Recording.{Item, Tail, Recording, IsRecording, AreItems, is_open, spell_heads, spell_items, table_behind}
@@ -28,7 +29,7 @@ use Rattle.orb_engine.specs.Ends.{End, stop_of, response_place}
 use Rattle.orb_engine.specs.Outputs.{output_of, written_items, written_front}
 use Rattle.orb_engine.specs.Counts.{rules_of_items, rules_of, count_allowed, count_blocked}
 use Rattle.orb_engine.specs.Workers.{IsNewFor}
-use Rattle.orb_engine.specs.Writing.{IsWriterFor, WriterReads, box_of}
+use Rattle.orb_engine.specs.Writing.{IsWriterFor, WriterReads, gathered_by}
 
 -- one exchange more
 abbrev pub count_with : Counts → Bool → Counts
@@ -40,15 +41,15 @@ count_with c allow =
 abbrev pub counts_of : List Rule → Counts
 counts_of rules = record { allowed = count_allowed rules; blocked = count_blocked rules }
 
--- a recording behind which more may come
+-- a recording after which more may come
 abbrev pub open_cut : List Item → Tail → Recording
 open_cut items tail = record { items = items; tail = tail; more = [] }
 
--- the media states behind these exchanges
+-- the media states after these exchanges
 abbrev pub table_of : List Item → States
 table_of items = table_behind map.empty items
 
--- the numbers are those of some first exchanges, whose outputs stand whole at the front of what was written
+-- the numbers are those of some first exchanges, whose outputs stand whole at the beginning of what was written
 pub record IsTold (counts : Counts) (s : Settings) (items : List Item) (wrote : List ℕ) : Type 0 where
   pub front : List Item
   pub others : List Item
@@ -83,15 +84,34 @@ pub record Answers (asked : AskedRequest) (e : Engine) (s : Settings) (items : L
   pub state : asked.state ≡ state_before (table_of items) request.asks
   pub place : asked.place ≡ length (spell_items items []) + length request.bytes
 
--- a response with these heads comes, and these bytes of its body have come
-pub record Receives (incoming : Incoming) (e : Engine) (s : Settings) (items : List Item) (h : Heads) (sent body : List ℕ) : Type 0
-  where
-    pub unframer : UnframerHasRead incoming.unframer h.response.frame sent body
-    pub writer : WriterReads e.writer s (exchange_of s (table_of items) h) body
-    pub media : e.media ≡ admits (table_of items) (id_of h.request.asks)
-    pub id : incoming.id ≡ id_of h.request.asks
-    pub to_end : incoming.to_end ≡ is_to_end h.response.frame
-    pub place : incoming.place ≡ response_place (length (spell_items items [])) h
+-- an exchange whose body comes: those before it, its heads, and what has come of its body, as it was sent and its
+-- content
+pub record Coming : Type 0 where
+  pub items : List Item
+  pub heads : Heads
+  pub sent : List ℕ
+  pub body : List ℕ
+
+-- its response, as the writer has it
+abbrev pub coming_response : Settings → Coming → Exchange
+coming_response s c = exchange_of s (table_of c.items) c.heads
+
+-- what is written of those before it and of it
+abbrev pub coming_written : Settings → Coming → List ℕ
+coming_written s c = written_items s map.empty 0 c.items ++ written_front s.job (coming_response s c) c.body
+
+-- these bytes are the exchanges before it and what has come of it
+abbrev pub spell_coming : Coming → List ℕ
+spell_coming c = spell_items c.items (spell_heads c.heads c.sent)
+
+-- what an engine knows of its body
+pub record Receives (incoming : Incoming) (e : Engine) (s : Settings) (c : Coming) : Type 0 where
+  pub unframer : UnframerHasRead incoming.unframer c.heads.response.frame c.sent c.body
+  pub writer : WriterReads e.writer s (coming_response s c) c.body
+  pub media : e.media ≡ admits (table_of c.items) (id_of c.heads.request.asks)
+  pub id : incoming.id ≡ id_of c.heads.request.asks
+  pub to_end : incoming.to_end ≡ is_to_end c.heads.response.frame
+  pub place : incoming.place ≡ response_place (length (spell_items c.items [])) c.heads
 
 -- it is in a body
 pub record Sends (incoming : Incoming) (e : Engine) (s : Settings) (items : List Item) (tail : Tail) : Type 0 where
@@ -99,7 +119,7 @@ pub record Sends (incoming : Incoming) (e : Engine) (s : Settings) (items : List
   pub sent : List ℕ
   pub body : List ℕ
   pub is : tail ≡ cut.Sending heads sent body
-  pub receives : Receives incoming e s items heads sent body
+  pub receives : Receives incoming e s (record { items = items; heads = heads; sent = sent; body = body })
 
 abbrev pub Stands : Stage → Engine → Settings → List Item → Tail → Type 0
 Stands stage.Idle e s items tail = ⊥
@@ -107,32 +127,28 @@ Stands stage.Asking e s items tail = Asks e s items tail
 Stands (stage.Answering asked) e s items tail = Answers asked e s items tail
 Stands (stage.Sending incoming) e s items tail = Sends incoming e s items tail
 
--- it has read these bytes, which are open, and given these; what is gathered is to be given behind them
+-- it has read these bytes, which are open, and given these; what is gathered is to be given after them
 pub record Reads (e : Engine) (s : Settings) (m given : List ℕ) : Type 0 where
   pub items : List Item
   pub tail : Tail
   pub cut : IsRecording s m (open_cut items tail)
   pub open_ : is_open tail ≡ true
-  pub gave : given ++ (box_of e.writer).bytes ≡ output_of s (open_cut items tail) false
+  pub gave : given ++ gathered_by e.writer ≡ output_of s (open_cut items tail) false
   pub taken : e.taken ≡ length m
   pub common : Common e s items given
   pub stands : Stands e.stage e s items tail
 
--- it is behind the heads of an exchange, and these bytes of its body have come; whether more may come isn't told yet
+-- it is after the heads of an exchange whose body comes; whether more of it may come isn't told yet
 pub record Fills (incoming : Incoming) (e : Engine) (s : Settings) (m given : List ℕ) : Type 0 where
-  pub items : List Item
-  pub heads : Heads
-  pub sent : List ℕ
-  pub body : List ℕ
-  pub spells : m ≡ spell_items items (spell_heads heads sent)
-  pub whole : AreItems s map.empty items
-  pub good : AreHeads (table_of items) heads
-  pub front : IsFront heads.response.frame sent body
-  pub gave : given ++ (box_of e.writer).bytes
-      ≡ written_items s map.empty 0 items ++ written_front s.job (exchange_of s (table_of items) heads) body
+  pub coming : Coming
+  pub spells : m ≡ spell_coming coming
+  pub whole : AreItems s map.empty coming.items
+  pub good : AreHeads (table_of coming.items) coming.heads
+  pub front : IsFront coming.heads.response.frame coming.sent coming.body
+  pub gave : given ++ gathered_by e.writer ≡ coming_written s coming
   pub taken : e.taken ≡ length m
-  pub common : Common e s items given
-  pub receives : Receives incoming e s items heads sent body
+  pub common : Common e s coming.items given
+  pub receives : Receives incoming e s coming
 
 -- the outcome is an end of a recording
 abbrev pub IsStop : EngineOutcome → End → Type 0
@@ -147,63 +163,39 @@ IsStop outcome.ReadFault stop = ⊥
 IsStop outcome.WriteFault stop = ⊥
 
 -- the bytes end so; what was given, and what is gathered, is all that is written of them
-pub record Stops (e : Engine) (s : Settings) (put put' : Option (List ℕ)) (size size' : Option ℕ) (m given : List ℕ)
-    (ended : Bool) (o : EngineOutcome) : Type 0 where
-  pub pushed : List ℕ
-  pub gained : Gains put put' size size' pushed
+pub record Stops (o : EngineOutcome) (e : Engine) (s : Settings) (m : List ℕ) (ended : Bool) (given : List ℕ) : Type 0 where
   pub recording : Recording
   pub cut : IsRecording s m recording
   pub stop : IsStop o (stop_of s recording ended)
-  pub gave : (given ++ pushed) ++ (box_of e.writer).bytes ≡ output_of s recording ended
+  pub gave : given ++ gathered_by e.writer ≡ output_of s recording ended
   pub counts : e.counts ≡ counts_of (rules_of s recording ended)
-  pub told : IsTold e.told s recording.items (given ++ pushed)
+  pub told : IsTold e.told s recording.items given
 
--- the sink failed: what was given is a front of what is written of the first bytes
-pub record Breaks (e : Engine) (s : Settings) (put put' : Option (List ℕ)) (size size' : Option ℕ) (m given : List ℕ)
-    (ended : Bool) : Type 0 where
-  pub pushed : List ℕ
-  pub gained : Gains put put' size size' pushed
+-- the sink failed: what was given is a prefix of what is written of the first bytes
+pub record Breaks (e : Engine) (s : Settings) (m : List ℕ) (ended : Bool) (given : List ℕ) : Type 0 where
   pub seen : List ℕ
   pub unseen : List ℕ
   pub all : m ≡ seen ++ unseen
   pub all_seen : ended ≡ true → unseen ≡ []
   pub recording : Recording
   pub cut : IsRecording s seen recording
-  pub within : IsPrefix (given ++ pushed) (output_of s recording ended)
-  pub told : IsTold e.told s recording.items (given ++ pushed)
+  pub within : IsPrefix given (output_of s recording ended)
+  pub told : IsTold e.told s recording.items given
 
 -- what stops a step
-abbrev pub Halts : EngineOutcome → Engine → Settings → Option (List ℕ) → Option (List ℕ) → Option ℕ → Option ℕ
-    → List ℕ → List ℕ → Bool → Type 0
-Halts outcome.WriteFault e s put put' size size' m given ended = Breaks e s put put' size size' m given ended
-Halts o e s put put' size size' m given ended = Stops e s put put' size size' m given ended o
-
--- it went on, and this holds
-pub record Goes (e : Engine) (s : Settings) (put put' : Option (List ℕ)) (size size' : Option ℕ) (m given : List ℕ) : Type 0
-  where
-    pub pushed : List ℕ
-    pub gained : Gains put put' size size' pushed
-    pub reads : Reads e s m (given ++ pushed)
+abbrev pub Halts : EngineOutcome → Engine → Settings → List ℕ → Bool → (given : List ℕ) → Type 0
+Halts outcome.WriteFault e s m ended given = Breaks e s m ended given
+Halts o e s m ended given = Stops o e s m ended given
 
 -- the answer of a step that takes no further bytes
-abbrev pub Settles : Result (Unit {0}) EngineOutcome → Engine → Settings → Option (List ℕ) → Option (List ℕ)
-    → Option ℕ → Option ℕ → List ℕ → List ℕ → Type 0
-Settles (Ok done) e s put put' size size' m given = Goes e s put put' size size' m given
-Settles (Err o) e s put put' size size' m given = Halts o e s put put' size size' m given false
+abbrev pub Settles : Result (Unit {0}) EngineOutcome → Engine → Settings → List ℕ → (given : List ℕ) → Type 0
+Settles (Ok done) e s m given = Reads e s m given
+Settles (Err o) e s m given = Halts o e s m false given
 
 -- the answer of a step that takes the first bytes of a piece
-pub record Takes (e : Engine) (s : Settings) (put put' : Option (List ℕ)) (size size' : Option ℕ)
-    (m given piece : List ℕ) (used : ℕ) : Type 0 where
-  pub front : List ℕ
-  pub rest : List ℕ
-  pub is : piece ≡ front ++ rest
-  pub size_ : length front ≡ used
-  pub goes : Goes e s put put' size size' (m ++ front) given
-
-abbrev pub Steps : Result ℕ EngineOutcome → Engine → Settings → Option (List ℕ) → Option (List ℕ)
-    → Option ℕ → Option ℕ → List ℕ → List ℕ → List ℕ → Type 0
-Steps (Ok used) e s put put' size size' m given piece = Takes e s put put' size size' m given piece used
-Steps (Err o) e s put put' size size' m given piece = Halts o e s put put' size size' (m ++ piece) given false
+abbrev pub Steps : Result ℕ EngineOutcome → Engine → Settings → (m piece given : List ℕ) → Type 0
+Steps (Ok used) e s m piece given = (used ≤ length piece) × Reads e s (m ++ take used piece) given
+Steps (Err o) e s m piece given = Halts o e s (m ++ piece) false given
 
 -- a write fault comes only where the sink's count rose; every other answer leaves it as it was
 abbrev pub HaltCause : EngineOutcome → ℕ → ℕ → Type 0
@@ -214,48 +206,49 @@ abbrev pub Causes : {T : Type 0} → Result T EngineOutcome → ℕ → ℕ → 
 Causes (Ok value) before after = after ≡ before
 Causes (Err o) before after = HaltCause o before after
 
--- a whole request head has come, and is to be read
-pub record HasWholeRequest (e : Engine) (s : Settings) (m given : List ℕ) : Type 0 where
+-- a request head comes, whose bytes so far are such a text
+pub record HasRequest (IsText : List ℕ → Type 0) (e : Engine) (s : Settings) (m given : List ℕ) : Type 0 where
   pub items : List Item
   pub head : List ℕ
   pub spells : m ≡ spell_items items head
   pub whole : AreItems s map.empty items
-  pub text : IsHeadText head
+  pub text : IsText head
   pub buffer : e.head ≡ head
   pub media : e.media ≡ table_of items
   pub writer : IsWriterFor e.writer s
-  pub gave : given ++ (box_of e.writer).bytes ≡ written_items s map.empty 0 items
+  pub gave : given ++ gathered_by e.writer ≡ written_items s map.empty 0 items
   pub taken : e.taken ≡ length m
   pub common : Common e s items given
 
--- a whole response head has come, and is to be read
-pub record HasWholeResponse (asked : AskedRequest) (e : Engine) (s : Settings) (m given : List ℕ) : Type 0 where
-  pub items : List Item
-  pub request : Request
-  pub head : List ℕ
-  pub spells : m ≡ spell_items items (request.bytes ++ head)
-  pub whole : AreItems s map.empty items
-  pub good : IsRequestIn (table_of items) request
-  pub text : IsHeadText head
-  pub buffer : e.head ≡ head
-  pub media : e.media ≡ admits (table_of items) (id_of request.asks)
-  pub writer : IsWriterFor e.writer s
-  pub asks : asked.asks ≡ request.asks
-  pub state : asked.state ≡ state_before (table_of items) request.asks
-  pub place : asked.place ≡ length (spell_items items []) + length request.bytes
-  pub gave : given ++ (box_of e.writer).bytes ≡ written_items s map.empty 0 items
-  pub taken : e.taken ≡ length m
-  pub common : Common e s items given
-
--- it was read, and this is its frame, and a decider for its response
-pub record HasReadHeads (asked : AskedRequest) (decider : Decider) (frame : BodyFrame) (e : Engine) (s : Settings) (m given : List ℕ) : Type 0
+-- the same of a response head
+pub record HasResponse (IsText : List ℕ → Type 0) (asked : AskedRequest) (e : Engine) (s : Settings) (m given : List ℕ) : Type 0
   where
-    pub whole : HasWholeResponse asked e s m given
+    pub items : List Item
+    pub request : Request
+    pub head : List ℕ
+    pub spells : m ≡ spell_items items (request.bytes ++ head)
+    pub whole : AreItems s map.empty items
+    pub good : IsRequestIn (table_of items) request
+    pub text : IsText head
+    pub buffer : e.head ≡ head
+    pub media : e.media ≡ admits (table_of items) (id_of request.asks)
+    pub writer : IsWriterFor e.writer s
+    pub asks : asked.asks ≡ request.asks
+    pub state : asked.state ≡ state_before (table_of items) request.asks
+    pub place : asked.place ≡ length (spell_items items []) + length request.bytes
+    pub gave : given ++ gathered_by e.writer ≡ written_items s map.empty 0 items
+    pub taken : e.taken ≡ length m
+    pub common : Common e s items given
+
+-- it was read whole, and this is a decider for its response, with its frame
+pub record HasReadHeads (asked : AskedRequest) (read : Decider × BodyFrame) (e : Engine) (s : Settings) (m given : List ℕ) : Type 0
+  where
+    pub whole : HasResponse IsHeadText asked e s m given
     pub response : Response
     pub bytes : response.bytes ≡ whole.head
     pub good : IsResponseHead whole.request.asks.is_head response
-    pub frame_is : frame ≡ response.frame
-    pub new : IsNewFor decider s (judged_by s (table_of whole.items) (record { request = whole.request; response = response }))
+    pub frame_is : read.1 ≡ response.frame
+    pub new : IsNewFor read.0 s (judged_by s (table_of whole.items) (record { request = whole.request; response = response }))
 
 -- what `Fills` says, where it is in a body
 abbrev pub FillsAt : Stage → Engine → Settings → List ℕ → List ℕ → Type 0
@@ -264,71 +257,34 @@ FillsAt stage.Asking e s m given = ⊥
 FillsAt (stage.Answering asked) e s m given = ⊥
 FillsAt (stage.Sending incoming) e s m given = Fills incoming e s m given
 
--- what comes of the content that the unframer has taken, which the writer hasn't read yet
-pub record Passes (incoming : Incoming) (e : Engine) (s : Settings) (m given piece : List ℕ) : Type 0 where
-  pub items : List Item
-  pub heads : Heads
-  pub sent : List ℕ
-  pub body : List ℕ
-  pub spells : m ≡ spell_items items (spell_heads heads sent)
-  pub whole : AreItems s map.empty items
-  pub good : AreHeads (table_of items) heads
-  pub front : IsFront heads.response.frame sent (body ++ piece)
-  pub gave : given ++ (box_of e.writer).bytes
-      ≡ written_items s map.empty 0 items ++ written_front s.job (exchange_of s (table_of items) heads) body
+-- the unframer has taken this further content, which the writer hasn't read yet
+pub record Passes (incoming : Incoming) (e : Engine) (s : Settings) (m piece given : List ℕ) : Type 0 where
+  pub coming : Coming
+  pub spells : m ≡ spell_coming coming
+  pub whole : AreItems s map.empty coming.items
+  pub good : AreHeads (table_of coming.items) coming.heads
+  pub front : IsFront coming.heads.response.frame coming.sent (coming.body ++ piece)
+  pub gave : given ++ gathered_by e.writer ≡ coming_written s coming
   pub taken : e.taken ≡ length m
-  pub common : Common e s items given
-  pub unframer : UnframerHasRead incoming.unframer heads.response.frame sent (body ++ piece)
-  pub writer : WriterReads e.writer s (exchange_of s (table_of items) heads) body
-  pub media : e.media ≡ admits (table_of items) (id_of heads.request.asks)
-  pub id : incoming.id ≡ id_of heads.request.asks
-  pub to_end : incoming.to_end ≡ is_to_end heads.response.frame
-  pub place : incoming.place ≡ response_place (length (spell_items items [])) heads
+  pub common : Common e s coming.items given
+  pub unframer : UnframerHasRead incoming.unframer coming.heads.response.frame coming.sent (coming.body ++ piece)
+  pub writer : WriterReads e.writer s (coming_response s coming) coming.body
+  pub media : e.media ≡ admits (table_of coming.items) (id_of coming.heads.request.asks)
+  pub id : incoming.id ≡ id_of coming.heads.request.asks
+  pub to_end : incoming.to_end ≡ is_to_end coming.heads.response.frame
+  pub place : incoming.place ≡ response_place (length (spell_items coming.items [])) coming.heads
 
-abbrev pub PassesAt : Stage → Engine → Settings → List ℕ → List ℕ → List ℕ → Type 0
-PassesAt stage.Idle e s m given piece = ⊥
-PassesAt stage.Asking e s m given piece = ⊥
-PassesAt (stage.Answering asked) e s m given piece = ⊥
-PassesAt (stage.Sending incoming) e s m given piece = Passes incoming e s m given piece
+abbrev pub PassesAt : Stage → Engine → Settings → (m piece given : List ℕ) → Type 0
+PassesAt stage.Idle e s m piece given = ⊥
+PassesAt stage.Asking e s m piece given = ⊥
+PassesAt (stage.Answering asked) e s m piece given = ⊥
+PassesAt (stage.Sending incoming) e s m piece given = Passes incoming e s m piece given
 
 abbrev pub IsSending : Stage → Type 0
 IsSending stage.Idle = ⊥
 IsSending stage.Asking = ⊥
 IsSending (stage.Answering asked) = ⊥
 IsSending (stage.Sending incoming) = Unit {0}
-
--- the first bytes of a request head have come, or none
-pub record HasOpenRequest (e : Engine) (s : Settings) (m given : List ℕ) : Type 0 where
-  pub items : List Item
-  pub head : List ℕ
-  pub spells : m ≡ spell_items items head
-  pub whole : AreItems s map.empty items
-  pub text : IsOpenHead head
-  pub buffer : e.head ≡ head
-  pub media : e.media ≡ table_of items
-  pub writer : IsWriterFor e.writer s
-  pub gave : given ++ (box_of e.writer).bytes ≡ written_items s map.empty 0 items
-  pub taken : e.taken ≡ length m
-  pub common : Common e s items given
-
--- the same of a response head
-pub record HasOpenResponse (asked : AskedRequest) (e : Engine) (s : Settings) (m given : List ℕ) : Type 0 where
-  pub items : List Item
-  pub request : Request
-  pub head : List ℕ
-  pub spells : m ≡ spell_items items (request.bytes ++ head)
-  pub whole : AreItems s map.empty items
-  pub good : IsRequestIn (table_of items) request
-  pub text : IsOpenHead head
-  pub buffer : e.head ≡ head
-  pub media : e.media ≡ admits (table_of items) (id_of request.asks)
-  pub writer : IsWriterFor e.writer s
-  pub asks : asked.asks ≡ request.asks
-  pub state : asked.state ≡ state_before (table_of items) request.asks
-  pub place : asked.place ≡ length (spell_items items []) + length request.bytes
-  pub gave : given ++ (box_of e.writer).bytes ≡ written_items s map.empty 0 items
-  pub taken : e.taken ≡ length m
-  pub common : Common e s items given
 
 -- what a body's unframer took of a piece; all else of the body is as it was
 pub record Unframes (i : Incoming) (after : Stage) (piece : List ℕ) (t : Taken) : Type 0 where

@@ -1,7 +1,7 @@
 -- What the public calls of an engine answer.
 use Rattle.std.specs.Prelude.{◌≡◌, ℕ, ◌<◌, ◌≤◌, ◌^◌, Bool, true, false, List, [], ◌++◌, length, take, Option, Some, None}
 use Rattle.std.specs.FinMap as map
-use Rattle.orb_io.specs.Told.{Loses, IsAtEnd, Gains, IsPrefix, Rose}
+use Rattle.orb_io.specs.Told.{Loses, IsAtEnd, IsPrefix, Rose}
 use Rattle.orb_engine.specs.declared.settings.Settings.{Settings}
 use Rattle.orb_engine.specs.declared.engine.Engine.{Engine}
 use Rattle.orb_engine.specs.declared.outcome.EngineOutcome.{EngineOutcome}
@@ -52,7 +52,7 @@ pub record HasCounted (e : Engine) (s : Settings) (r : Recording) (ended : Bool)
   pub allowed : allowed_by e ≡ count_allowed (rules_of s r ended)
   pub blocked : blocked_by e ≡ count_blocked (rules_of s r ended)
 
--- it has counted some first exchanges, whose outputs stand whole at the front of what was written
+-- it has counted some first exchanges, whose outputs stand whole at the beginning of what was written
 pub record HasCountedFront (e : Engine) (s : Settings) (items : List Item) (wrote : List ℕ) : Type 0 where
   pub front : List Item
   pub others : List Item
@@ -61,82 +61,58 @@ pub record HasCountedFront (e : Engine) (s : Settings) (items : List Item) (wrot
   pub blocked : blocked_by e ≡ count_blocked (rules_of_items front)
   pub whole : IsPrefix (written_items s map.empty 0 front) wrote
 
--- the bytes are a recording that ends so; all that was given, with what this call gave, is what is written of it
-pub record Ends (e : Engine) (s : Settings) (put put' : Option (List ℕ)) (size size' : Option ℕ) (m given : List ℕ)
-    (ended : Bool) (P : End → Type 0) : Type 0 where
-  pub more : List ℕ
-  pub gained : Gains put put' size size' more
+-- the bytes are a recording that ends so, and what was given is what is written of it
+pub record Ends (e : Engine) (s : Settings) (m : List ℕ) (ended : Bool) (P : End → Type 0) (given : List ℕ) : Type 0 where
   pub recording : Recording
   pub cut : IsRecording s m recording
   pub stop : P (stop_of s recording ended)
-  pub gave : given ++ more ≡ output_of s recording ended
+  pub gave : given ≡ output_of s recording ended
   pub counted : HasCounted e s recording ended
 
--- the bytes are open, and the engine goes on
-pub record Continues (e : Engine) (s : Settings) (put put' : Option (List ℕ)) (size size' : Option ℕ) (m given : List ℕ) : Type 0
-  where
-    pub ends : Ends e s put put' size size' m given false (λ stop. stop ≡ Open)
-    pub reads : HasRead e s m (given ++ ends.more)
-
--- the sink failed: all that was given is a front of what is written of some first bytes, and so of what is
--- written of all of them
-pub record Fails (e : Engine) (s : Settings) (put put' : Option (List ℕ)) (size size' : Option ℕ) (m given : List ℕ)
-    (ended : Bool) : Type 0 where
-  pub more : List ℕ
-  pub gained : Gains put put' size size' more
+-- the sink failed: what was given is a prefix of what is written of some first bytes, and so of what is written
+-- of all of them
+pub record Fails (e : Engine) (s : Settings) (m : List ℕ) (ended : Bool) (given : List ℕ) : Type 0 where
   pub seen : List ℕ
   pub unseen : List ℕ
   pub all : m ≡ seen ++ unseen
   pub all_seen : ended ≡ true → unseen ≡ []
   pub recording : Recording
   pub cut : IsRecording s seen recording
-  pub within : IsPrefix (given ++ more) (output_of s recording ended)
-  pub counted : HasCountedFront e s recording.items (given ++ more)
+  pub within : IsPrefix given (output_of s recording ended)
+  pub counted : HasCountedFront e s recording.items given
 
 -- the bytes end so, or the sink failed
-abbrev pub EndsAs : EngineOutcome → Engine → Settings → Option (List ℕ) → Option (List ℕ)
-    → Option ℕ → Option ℕ → List ℕ → List ℕ → Bool → Type 0
-EndsAs outcome.WriteFault e s put put' size size' m given ended = Fails e s put put' size size' m given ended
-EndsAs o e s put put' size size' m given ended = Ends e s put put' size size' m given ended (IsStop o)
+abbrev pub EndsAs : EngineOutcome → Engine → Settings → List ℕ → Bool → (given : List ℕ) → Type 0
+EndsAs outcome.WriteFault e s m ended given = Fails e s m ended given
+EndsAs o e s m ended given = Ends e s m ended (IsStop o) given
 
 -- what `feed` answers
-abbrev pub FeedAnswers : Option EngineOutcome → Engine → Settings → Option (List ℕ) → Option (List ℕ)
-    → Option ℕ → Option ℕ → List ℕ → List ℕ → Type 0
-FeedAnswers None e s put put' size size' m given = Continues e s put put' size size' m given
-FeedAnswers (Some o) e s put put' size size' m given = EndsAs o e s put put' size size' m given false
+abbrev pub FeedAnswers : Option EngineOutcome → Engine → Settings → List ℕ → (given : List ℕ) → Type 0
+FeedAnswers None e s m given = Ends e s m false (λ stop. stop ≡ Open) given × HasRead e s m given
+FeedAnswers (Some o) e s m given = EndsAs o e s m false given
 
 -- a write fault comes only where the sink's count rose; every other answer leaves it as it was
 abbrev pub FeedCauses : Option EngineOutcome → ℕ → ℕ → Type 0
 FeedCauses None before after = after ≡ before
 FeedCauses (Some o) before after = HaltCause o before after
 
--- what `end` answers
-abbrev pub EndAnswers : EngineOutcome → Engine → Settings → Option (List ℕ) → Option (List ℕ)
-    → Option ℕ → Option ℕ → List ℕ → List ℕ → Type 0
-EndAnswers o e s put put' size size' m given = EndsAs o e s put put' size size' m given true
+-- what an answer of `run` says of the bytes read and of those given, and of whether the input has ended
+abbrev pub RunAnswers : EngineOutcome → Engine → Settings → (read : List ℕ) → (ended : Bool) → (given : List ℕ) → Type 0
+RunAnswers outcome.ReadFault e s read ended given = (ended ≡ false) × Ends e s read false (λ stop. stop ≡ Open) given
+RunAnswers outcome.WriteFault e s read ended given = Fails e s read ended given
+RunAnswers outcome.Endless e s read ended given =
+    (run_limit < length read) × (ended ≡ false) × Ends e s (take run_limit read) false (λ stop. stop ≡ Open) given
+RunAnswers o e s read ended given = Ends e s read ended (IsStop o) given
 
--- what an answer of `run` says of the bytes read and written, and of whether the input has ended
-abbrev pub RunAnswers : EngineOutcome → Engine → Settings → (put put' : Option (List ℕ)) (size size' : Option ℕ)
-    (read : List ℕ) (ended : Bool) → Type 0
-RunAnswers outcome.ReadFault e s put put' size size' read ended =
-    (ended ≡ false) × Ends e s put put' size size' read [] false (λ stop. stop ≡ Open)
-RunAnswers outcome.WriteFault e s put put' size size' read ended =
-    Fails e s put put' size size' read [] ended
-RunAnswers outcome.Endless e s put put' size size' read ended =
-    (run_limit < length read) × (ended ≡ false)
-    × Ends e s put put' size size' (take run_limit read) [] false (λ stop. stop ≡ Open)
-RunAnswers o e s put put' size size' read ended = Ends e s put put' size size' read [] ended (IsStop o)
-
--- The bytes that the source lost, whether the input has ended, and what the answer says of what the sink gained.
+-- The bytes that the source lost, whether the input has ended, and what the answer says of what the sink was given.
 -- More than one run takes are lost only where the answer is Endless.
-pub record Ran (o : EngineOutcome) (e : Engine) (s : Settings) (left left' put put' : Option (List ℕ)) (size size' : Option ℕ)
-    : Type 0 where
+pub record Ran (o : EngineOutcome) (e : Engine) (s : Settings) (left left' : Option (List ℕ)) (given : List ℕ) : Type 0 where
   pub read : List ℕ
   pub ended : Bool
   pub lost : Loses left left' read
   pub at_end : ended ≡ true → IsAtEnd left'
   pub fits : (o ≡ outcome.Endless → ⊥) → length read ≤ run_limit
-  pub answers : RunAnswers o e s put put' size size' read ended
+  pub answers : RunAnswers o e s read ended given
 
 -- A read fault comes only where the source's count rose, a write fault only where the sink's did. Every
 -- other count is as it was.

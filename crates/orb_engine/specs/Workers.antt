@@ -1,10 +1,9 @@
 -- What works on one response, and what it puts, by either job.
-use Rattle.std.specs.Prelude.{◌≡◌, ℕ, List, [], Option, Some, None, Result, Ok, Err}
+use Rattle.std.specs.Prelude.{◌≡◌, ℕ, List, [], Option, Some, None}
 use Rattle.response_rules.specs.declared.deciding.Decider.{Decider}
 use Rattle.response_rules.specs.Heads.{Head}
 use Rattle.response_rules.specs.Reads.{HasRead as DeciderHasRead}
 use Rattle.body_filter.specs.Exchanges.{Exchange}
-use Rattle.body_filter.specs.Puts.{Makes, Falls}
 use Rattle.body_filter.specs.Reads.{HasRead as FilterHasRead, limit_of}
 use Rattle.orb_engine.specs.declared.settings.Settings.{Settings}
 use Rattle.orb_engine.specs.declared.settings.Job.TheVariants as job
@@ -20,9 +19,9 @@ abbrev pub ExplainerReads : Option Decider → Head → List ℕ → Type 0
 ExplainerReads None h m = ⊥
 ExplainerReads (Some d) h m = DeciderHasRead d h m
 
--- it has read this front of the body of the response
+-- it has read this prefix of the body of the response
 abbrev pub WorkerReads : Worker → Exchange → List ℕ → Type 0
-WorkerReads (worker.Filters f) x m = (given : List ℕ) × FilterHasRead f x m given
+WorkerReads (worker.Filters f) x m = FilterHasRead f x m
 WorkerReads (worker.Explains d) x m = ExplainerReads d x.head m
 
 -- the worker of these settings has read it
@@ -34,9 +33,3 @@ pub record Works (w : Worker) (s : Settings) (x : Exchange) (m : List ℕ) : Typ
 pub record IsNewFor (d : Decider) (s : Settings) (h : Head) : Type 0 where
   pub reads : DeciderHasRead d h []
   pub limit : h.limit ≡ s.limit
-
--- the sink got all that is owed behind what was given, and this holds; or, at a fault, a front of it
-abbrev pub Puts : {T E : Type 0} → Result T E → Option (List ℕ) → Option (List ℕ) → Option ℕ → Option ℕ
-    → (given owed : List ℕ) → (T → Type 0) → Type 0
-Puts (Ok value) put put' size size' given owed P = Makes put put' size size' given owed × P value
-Puts (Err fault) put put' size size' given owed P = Falls put put' size size' given owed

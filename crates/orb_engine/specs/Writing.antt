@@ -1,6 +1,6 @@
--- What is put of one exchange, and gathered.
-use Rattle.std.specs.Prelude.{◌≡◌, ◌⊎◌, ℕ, true, List, ◌++◌, length, Option, is_some, Result, Ok, Err}
-use Rattle.orb_io.specs.Told.{Gains, IsPrefix}
+-- What is written of one response, and gathered.
+use Rattle.std.specs.Prelude.{◌≡◌, ℕ, true, List, ◌++◌, length, is_some, Result, Ok, Err}
+use Rattle.orb_io.specs.Told.{IsPrefix}
 use Rattle.response_rules.specs.Tables.{window_rule_of}
 use Rattle.body_filter.specs.Exchanges.{Exchange}
 use Rattle.orb_engine.specs.declared.settings.Settings.{Settings}
@@ -8,39 +8,24 @@ use Rattle.orb_engine.specs.declared.writer.Writer.{Writer}
 use Rattle.orb_engine.specs.Boxes.{BoxState}
 use Rattle.orb_engine.specs.Workers.{IsWorkerFor, Works}
 
--- the sink gained some bytes: what was gathered, and more, are those and what is gathered now
-pub record Writes (box box' : BoxState) (put put' : Option (List ℕ)) (size size' : Option ℕ) (more : List ℕ) : Type 0
-  where
-    pub pushed : List ℕ
-    pub gained : Gains put put' size size' pushed
-    pub sum : box.bytes ++ more ≡ pushed ++ box'.bytes
-    pub calm : box'.faults ≡ 0
-
--- the sink failed: it gained a front of what was gathered, or of that and of what is owed behind what was given
-pub record Breaks (box : BoxState) (put put' : Option (List ℕ)) (size size' : Option ℕ) (given owed : List ℕ) : Type 0
-  where
-    pub pushed : List ℕ
-    pub gained : Gains put put' size size' pushed
-    pub within : IsPrefix pushed box.bytes
-        ⊎ ((more : List ℕ) × IsPrefix pushed (box.bytes ++ more) × IsPrefix (given ++ more) owed)
-
--- what a call that gathers answers
-abbrev pub Passes : {T E : Type 0} → Result T E → BoxState → BoxState → Option (List ℕ) → Option (List ℕ)
-    → Option ℕ → Option ℕ → (given owed : List ℕ) → (T → Type 0) → Type 0
-Passes (Ok value) box box' put put' size size' given owed P =
-    (more : List ℕ) × Writes box box' put put' size size' more × (given ++ more ≡ owed) × P value
-Passes (Err fault) box box' put put' size size' given owed P = Breaks box put put' size size' given owed
-
 -- what a writer has gathered
 abbrev pub box_of : Writer → BoxState
 box_of w = w.outbox
+
+abbrev pub gathered_by : Writer → List ℕ
+gathered_by w = (box_of w).bytes
+
+-- all that is owed was given or is gathered, and this holds of the value; at a fault a prefix of it was given
+abbrev pub Passes : {T E : Type 0} → Result T E → Writer → (owed : List ℕ) → (T → Type 0) → (given : List ℕ) → Type 0
+Passes (Ok value) w owed P given = (given ++ gathered_by w ≡ owed) × P value
+Passes (Err fault) w owed P given = IsPrefix given owed
 
 -- its worker does the job of the settings, and what is gathered fits
 pub record IsWriterFor (w : Writer) (s : Settings) : Type 0 where
   pub worker : IsWorkerFor w.worker s
   pub calm : (box_of w).faults ≡ 0
 
--- it has read this front of the body of the response
+-- it has read this prefix of the body of the response
 pub record WriterReads (w : Writer) (s : Settings) (x : Exchange) (m : List ℕ) : Type 0 where
   pub works : Works w.worker s x m
   pub calm : (box_of w).faults ≡ 0

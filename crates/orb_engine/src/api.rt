@@ -1,7 +1,8 @@
 //! The calls of an engine on a recording in pieces.
-ghost use Rattle.std.specs.Prelude.{◌≡◌, ◌≤◌, ◌+◌, ◌^◌, ◌++◌, ℕ, List, [], length, IfOk, IfSome, OnErr, IsSome, None};
+ghost use Rattle.std.specs.Prelude.{◌≡◌, ◌≤◌, ◌+◌, ◌^◌, ◌++◌, ℕ, List, [], length, true, IfOk, IsSome, None};
+ghost use Rattle.orb_io.specs.Told.{Gives};
 ghost use Rattle.orb_engine.specs.Reads.{HaltCause};
-ghost use Rattle.orb_engine.specs.Runs.{settings_of, taken_by, allowed_by, blocked_by, HasRead, CanFeed, IsSpent, FeedAnswers, FeedCauses, EndAnswers};
+ghost use Rattle.orb_engine.specs.Runs.{settings_of, taken_by, allowed_by, blocked_by, HasRead, CanFeed, IsSpent, FeedAnswers, FeedCauses, EndsAs};
 
 use crate::counts::Counts;
 use crate::engine::{Engine, Stage};
@@ -62,8 +63,7 @@ impl Engine {
         requires can { CanFeed self.old }
         requires few { taken_by self.old + length piece.now ≤ 2 ^ 62 }
         ensures answers { (s : Settings) (m given : List ℕ) → HasRead self.old s m given
-            → FeedAnswers result self.new s (O.put output.old) (O.put output.new)
-            (O.size output.old) (O.size output.new) (m ++ piece.now) given }
+            → Gives (O.told output.old) (O.told output.new) given (FeedAnswers result self.new s (m ++ piece.now)) }
         ensures causes { FeedCauses result (O.faults output.old) (O.faults output.new) }
         ensures keeps { O.kept output.old output.new }
         ensures settings { settings_of self.new ≡ settings_of self.old }
@@ -80,8 +80,7 @@ impl Engine {
     pub fn end<O: Sink>(&mut self, output: &mut O) -> EngineOutcome
         requires { CanFeed self.old }
         ensures answers { (s : Settings) (m given : List ℕ) → HasRead self.old s m given
-            → EndAnswers result self.new s (O.put output.old) (O.put output.new)
-            (O.size output.old) (O.size output.new) m given }
+            → Gives (O.told output.old) (O.told output.new) given (EndsAs result self.new s m true) }
         ensures causes { HaltCause result (O.faults output.old) (O.faults output.new) }
         ensures keeps { O.kept output.old output.new }
         ensures settings { settings_of self.new ≡ settings_of self.old }

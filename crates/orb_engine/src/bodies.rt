@@ -1,5 +1,6 @@
 //! The steps through a body.
 ghost use Rattle.std.specs.Prelude.{◌≡◌, ◌≤◌, ◌+◌, ◌^◌, ℕ, List, length, IfOk};
+ghost use Rattle.orb_io.specs.Told.{Gives};
 ghost use Rattle.orb_engine.specs.Heads.{is_chunked as is_chunked_frame, is_to_end as is_to_end_frame};
 ghost use Rattle.orb_engine.specs.declared.settings.Settings.{Settings};
 ghost use Rattle.orb_engine.specs.declared.engine.Incoming.{Incoming};
@@ -22,11 +23,10 @@ impl Engine {
         output: &mut O,
     ) -> Result<(), EngineOutcome>
         requires can { (s : Settings) × (m : List ℕ) × (given : List ℕ)
-            × HasReadHeads asked decider frame self.old s m given }
+            × HasReadHeads asked (decider, frame) self.old s m given }
         requires few { self.old.taken ≤ 2 ^ 62 }
-        ensures settles { (s : Settings) (m given : List ℕ) → HasReadHeads asked decider frame self.old s m given
-            → Settles result self.new s (O.put output.old) (O.put output.new)
-            (O.size output.old) (O.size output.new) m given }
+        ensures settles { (s : Settings) (m given : List ℕ) → HasReadHeads asked (decider, frame) self.old s m given
+            → Gives (O.told output.old) (O.told output.new) given (Settles result self.new s m) }
         ensures causes { Causes result (O.faults output.old) (O.faults output.new) }
         ensures keeps { O.kept output.old output.new }
         ensures taken { self.new.taken ≡ self.old.taken }
@@ -60,8 +60,7 @@ impl Engine {
         requires sending { IsSending self.old.stage }
         requires few { self.old.taken + length piece.now ≤ 2 ^ 62 }
         ensures steps { (s : Settings) (m given : List ℕ) → Reads self.old s m given
-            → Steps result self.new s (O.put output.old) (O.put output.new)
-            (O.size output.old) (O.size output.new) m given piece.now }
+            → Gives (O.told output.old) (O.told output.new) given (Steps result self.new s m piece.now) }
         ensures moves { 1 ≤ length piece.now → IfOk result (λ used. 1 ≤ used) }
         ensures causes { Causes result (O.faults output.old) (O.faults output.new) }
         ensures keeps { O.kept output.old output.new }
@@ -86,11 +85,10 @@ impl Engine {
     /// Passes on the content of a body, which the unframer has taken.
     fn pass<O: Sink>(&mut self, body: &[u8], output: &mut O) -> Result<(), EngineOutcome>
         requires can { (s : Settings) × (m : List ℕ) × (given : List ℕ)
-            × PassesAt self.old.stage self.old s m given body.now }
+            × PassesAt self.old.stage self.old s m body.now given }
         requires few { self.old.taken ≤ 2 ^ 62 }
-        ensures settles { (s : Settings) (m given : List ℕ) → PassesAt self.old.stage self.old s m given body.now
-            → Settles result self.new s (O.put output.old) (O.put output.new)
-            (O.size output.old) (O.size output.new) m given }
+        ensures settles { (s : Settings) (m given : List ℕ) → PassesAt self.old.stage self.old s m body.now given
+            → Gives (O.told output.old) (O.told output.new) given (Settles result self.new s m) }
         ensures causes { Causes result (O.faults output.old) (O.faults output.new) }
         ensures keeps { O.kept output.old output.new }
         ensures taken { self.new.taken ≡ self.old.taken }
@@ -108,8 +106,7 @@ impl Engine {
             × FillsAt self.old.stage self.old s m given }
         requires few { self.old.taken ≤ 2 ^ 62 }
         ensures settles { (s : Settings) (m given : List ℕ) → FillsAt self.old.stage self.old s m given
-            → Settles result self.new s (O.put output.old) (O.put output.new)
-            (O.size output.old) (O.size output.new) m given }
+            → Gives (O.told output.old) (O.told output.new) given (Settles result self.new s m) }
         ensures causes { Causes result (O.faults output.old) (O.faults output.new) }
         ensures keeps { O.kept output.old output.new }
         ensures taken { self.new.taken ≡ self.old.taken }

@@ -1,7 +1,6 @@
 //! What one call has to write, gathered so that it goes out in few pushes.
-ghost use Rattle.std.specs.Prelude.{◌≡◌, Some};
-ghost use Rattle.orb_io.specs.Told.{Pushes, HasCause};
-ghost use Rattle.orb_io.specs.Memory.{told_size};
+ghost use Rattle.std.specs.Prelude.{◌≡◌};
+ghost use Rattle.orb_io.specs.Told.{Pushes, HasCause, told_bytes};
 
 use crate::heads::front_of;
 use orb_bytes::append;
@@ -75,17 +74,16 @@ impl Sink for Outbox {
     ghost use Rattle.std.proofs.Common.{refl, length};
     ghost use Rattle.std.proofs.Math.Nat.{min-le_right as min_le_right};
 
-    ghost put = { λ b. Some b.bytes };
-
-    ghost size = { λ b. told_size b.bytes };
+    ghost told = { λ b. told_bytes b.bytes };
 
     ghost faults = { λ b. b.faults };
 
     ghost kept = { λ b c. IsBehind b c };
 
-    ghost number = { λ _. refl };
-
-    ghost number_fits = { λ b. min_le_right (length b.bytes) (2 ^ 64 - 1) };
+    ghost told_agrees = { λ b. record {
+      number = refl;
+      fits = min_le_right (length b.bytes) (2 ^ 64 - 1);
+    } };
 
     ghost kept_reflexive = { λ b. IsBehind-same b };
 

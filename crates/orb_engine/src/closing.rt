@@ -1,11 +1,9 @@
 //! The end of an exchange.
 ghost use Rattle.std.specs.Prelude.{◌≡◌, ◌≤◌, ◌<◌, ◌+◌, ◌^◌, ℕ, List, is_some, true};
 ghost use Rattle.orb_engine.specs.declared.settings.Settings.{Settings};
-ghost use Rattle.response_rules.specs.Tables.{window_rule_of};
-ghost use Rattle.orb_engine.specs.Heads.{Heads, judged_by};
-ghost use Rattle.orb_engine.specs.Recording.{Item};
-ghost use Rattle.orb_engine.specs.Reads.{Causes, table_of};
-ghost use Rattle.orb_engine.specs.Closing.{IsClosing, Closes, ClosesDecided};
+ghost use Rattle.orb_io.specs.Told.{Gives};
+ghost use Rattle.orb_engine.specs.Reads.{Causes, Coming};
+ghost use Rattle.orb_engine.specs.Closing.{IsClosing, Closes, ClosesDecided, coming_rule};
 
 use crate::engine::{Engine, Stage};
 use crate::media::leave;
@@ -20,13 +18,10 @@ impl Engine {
         place: u64,
         output: &mut O,
     ) -> Result<(), EngineOutcome>
-        requires can { (s : Settings) × (items : List Item) × (h : Heads) × (body : List ℕ) × (given : List ℕ)
-            × IsClosing self.old s items h body given id }
+        requires can { (s : Settings) × (c : Coming) × (given : List ℕ) × IsClosing self.old s c id given }
         requires few { self.old.counts.allowed + self.old.counts.blocked < 2 ^ 62 }
-        ensures closes { (s : Settings) (items : List Item) (h : Heads) (body given : List ℕ)
-            → IsClosing self.old s items h body given id
-            → Closes result place self.old self.new s (O.put output.old) (O.put output.new)
-            (O.size output.old) (O.size output.new) items h body given }
+        ensures closes { (s : Settings) (c : Coming) (given : List ℕ) → IsClosing self.old s c id given
+            → Gives (O.told output.old) (O.told output.new) given (Closes result place self.new s c) }
         ensures causes { Causes result (O.faults output.old) (O.faults output.new) }
         ensures keeps { O.kept output.old output.new }
         ensures taken { self.new.taken ≡ self.old.taken }
@@ -44,15 +39,12 @@ impl Engine {
         id: Option<u64>,
         output: &mut O,
     ) -> Result<(), EngineOutcome>
-        requires can { (s : Settings) × (items : List Item) × (h : Heads) × (body : List ℕ) × (given : List ℕ)
-            × IsClosing self.old s items h body given id
-            × (is_some (window_rule_of (judged_by s (table_of items) h) body) ≡ true) }
+        requires can { (s : Settings) × (c : Coming) × (given : List ℕ) × IsClosing self.old s c id given
+            × (is_some (coming_rule s c) ≡ true) }
         requires few { self.old.counts.allowed + self.old.counts.blocked < 2 ^ 62 }
-        ensures closes { (s : Settings) (items : List Item) (h : Heads) (body given : List ℕ)
-            → IsClosing self.old s items h body given id
-            → is_some (window_rule_of (judged_by s (table_of items) h) body) ≡ true
-            → ClosesDecided result self.new s (O.put output.old) (O.put output.new)
-            (O.size output.old) (O.size output.new) items h body given }
+        ensures closes { (s : Settings) (c : Coming) (given : List ℕ) → IsClosing self.old s c id given
+            → is_some (coming_rule s c) ≡ true
+            → Gives (O.told output.old) (O.told output.new) given (ClosesDecided result self.new s c) }
         ensures causes { Causes result (O.faults output.old) (O.faults output.new) }
         ensures keeps { O.kept output.old output.new }
         ensures taken { self.new.taken ≡ self.old.taken }

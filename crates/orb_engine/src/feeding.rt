@@ -1,7 +1,8 @@
 //! A piece of a recording, step by step, and what goes out behind it.
-ghost use Rattle.std.specs.Prelude.{◌≡◌, ◌≤◌, ◌+◌, ◌^◌, ◌++◌, ℕ, List, length, Option, Bool, true, IfOk, OnOk, IsSome};
+ghost use Rattle.std.specs.Prelude.{◌≡◌, ◌≤◌, ◌+◌, ◌^◌, ◌++◌, ℕ, List, length, Bool, true, IfOk, OnOk, IsSome};
+ghost use Rattle.orb_io.specs.Told.{Gives};
 ghost use Rattle.orb_engine.specs.declared.settings.Settings.{Settings};
-ghost use Rattle.orb_engine.specs.Reads.{Reads, Goes, Stops, Halts, HaltCause, Steps, Settles, Causes};
+ghost use Rattle.orb_engine.specs.Reads.{Reads, Stops, Halts, HaltCause, Steps, Settles, Causes};
 ghost use Rattle.orb_engine.specs.Runs.{settings_of, EndsAs, FeedAnswers, FeedCauses, IsSpent};
 
 use crate::engine::{Engine, Stage};
@@ -14,8 +15,7 @@ impl Engine {
         requires can { (s : Settings) × (m : List ℕ) × (given : List ℕ) × Reads self.old s m given }
         requires few { self.old.taken + length piece.now ≤ 2 ^ 62 }
         ensures steps { (s : Settings) (m given : List ℕ) → Reads self.old s m given
-            → Steps result self.new s (O.put output.old) (O.put output.new)
-            (O.size output.old) (O.size output.new) m given piece.now }
+            → Gives (O.told output.old) (O.told output.new) given (Steps result self.new s m piece.now) }
         ensures moves { 1 ≤ length piece.now → IfOk result (λ used. 1 ≤ used) }
         ensures causes { Causes result (O.faults output.old) (O.faults output.new) }
         ensures keeps { O.kept output.old output.new }
@@ -42,8 +42,7 @@ impl Engine {
         requires can { (s : Settings) × (m : List ℕ) × (given : List ℕ) × Reads self.old s m given }
         requires few { self.old.taken + length piece.now ≤ 2 ^ 62 }
         ensures settles { (s : Settings) (m given : List ℕ) → Reads self.old s m given
-            → Settles result self.new s (O.put output.old) (O.put output.new)
-            (O.size output.old) (O.size output.new) (m ++ piece.now) given }
+            → Gives (O.told output.old) (O.told output.new) given (Settles result self.new s (m ++ piece.now)) }
         ensures causes { Causes result (O.faults output.old) (O.faults output.new) }
         ensures keeps { O.kept output.old output.new }
         ensures taken { OnOk result (self.new.taken ≡ self.old.taken + length piece.now) }
@@ -61,10 +60,8 @@ impl Engine {
 
     /// Pushes what was gathered, where the recording is open.
     pub(crate) fn flush_open<O: Sink>(&mut self, output: &mut O) -> Option<EngineOutcome>
-        ensures answers { (s : Settings) (m given : List ℕ) (put : Option (List ℕ)) (size : Option ℕ)
-            → Goes self.old s put (O.put output.old) size (O.size output.old) m given
-            → self.old.taken ≤ 2 ^ 62
-            → FeedAnswers result self.new s put (O.put output.new) size (O.size output.new) m given }
+        ensures answers { (s : Settings) (m given : List ℕ) → Reads self.old s m given → self.old.taken ≤ 2 ^ 62
+            → Gives (O.told output.old) (O.told output.new) given (FeedAnswers result self.new s m) }
         ensures causes { FeedCauses result (O.faults output.old) (O.faults output.new) }
         ensures keeps { O.kept output.old output.new }
         ensures settings { settings_of self.new ≡ settings_of self.old }
@@ -86,9 +83,8 @@ impl Engine {
 
     /// Pushes what was gathered where the recording stops so.
     pub(crate) fn settle<O: Sink>(&mut self, stop: EngineOutcome, output: &mut O) -> EngineOutcome
-        ensures answers { (s : Settings) (m given : List ℕ) (put : Option (List ℕ)) (size : Option ℕ) (ended : Bool)
-            → Halts stop self.old s put (O.put output.old) size (O.size output.old) m given ended
-            → EndsAs result self.new s put (O.put output.new) size (O.size output.new) m given ended }
+        ensures answers { (s : Settings) (m given : List ℕ) (ended : Bool) → Halts stop self.old s m ended given
+            → Gives (O.told output.old) (O.told output.new) given (EndsAs result self.new s m ended) }
         ensures causes { (before : ℕ) → HaltCause stop before (O.faults output.old) → HaltCause result before (O.faults output.new) }
         ensures keeps { O.kept output.old output.new }
         ensures settings { settings_of self.new ≡ settings_of self.old }
@@ -107,9 +103,8 @@ impl Engine {
     /// The same, where the sink has not failed.
     fn flush_stop<O: Sink>(&mut self, stop: EngineOutcome, output: &mut O) -> EngineOutcome
         requires { stop ≡ EngineOutcome.WriteFault → ⊥ }
-        ensures answers { (s : Settings) (m given : List ℕ) (put : Option (List ℕ)) (size : Option ℕ) (ended : Bool)
-            → Stops self.old s put (O.put output.old) size (O.size output.old) m given ended stop
-            → EndsAs result self.new s put (O.put output.new) size (O.size output.new) m given ended }
+        ensures answers { (s : Settings) (m given : List ℕ) (ended : Bool) → Stops stop self.old s m ended given
+            → Gives (O.told output.old) (O.told output.new) given (EndsAs result self.new s m ended) }
         ensures causes { (before : ℕ) → HaltCause stop before (O.faults output.old) → HaltCause result before (O.faults output.new) }
         ensures keeps { O.kept output.old output.new }
         ensures settings { settings_of self.new ≡ settings_of self.old }
@@ -129,8 +124,7 @@ impl Engine {
         requires can { (s : Settings) × (m : List ℕ) × (given : List ℕ) × Reads self.old s m given }
         requires few { self.old.taken ≤ 2 ^ 62 }
         ensures halts { (s : Settings) (m given : List ℕ) → Reads self.old s m given
-            → Halts result self.new s (O.put output.old) (O.put output.new)
-            (O.size output.old) (O.size output.new) m given true }
+            → Gives (O.told output.old) (O.told output.new) given (Halts result self.new s m true) }
         ensures causes { HaltCause result (O.faults output.old) (O.faults output.new) }
         ensures keeps { O.kept output.old output.new }
         ensures settings { settings_of self.new ≡ settings_of self.old }

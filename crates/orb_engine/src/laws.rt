@@ -69,11 +69,10 @@ pub fn completeness()
         → (ended ≡ true → rest ≡ []) → stop_of s first ended ≢ Open
         → IsAll s r first ended rest }
     ensures runs { (o : EngineOutcome) (e : Engine) (s : Settings) (bytes : List ℕ) (r : Recording)
-        (left' put put' : Option (List ℕ)) (size size' : Option ℕ)
-        (source source' sink sink' : ℕ)
+        (left' : Option (List ℕ)) (given : List ℕ) (source source' sink sink' : ℕ)
         → IsWholeRecording s bytes r
-        → Ran o e s (Some bytes) left' put put' size size'
+        → Ran o e s (Some bytes) left' given
         → RunCauses o source source' sink sink'
         → ¬ (Rose source source') → ¬ (Rose sink sink')
-        → IsComplete o s r left' put put' size size' }
+        → IsComplete o s r left' given }
 {}

@@ -1,7 +1,7 @@
 //! A whole run over a recording.
-ghost use Rattle.std.specs.Prelude.{◌≡◌, ◌≤◌, ◌<◌, ◌+◌, ◌^◌, ◌++◌, ℕ, List, Option, Some, None, length, IfOk};
+ghost use Rattle.std.specs.Prelude.{◌≡◌, ◌≤◌, ◌<◌, ◌+◌, ◌^◌, ◌++◌, ℕ, List, [], Some, None, length, IfOk};
 ghost use Rattle.std.specs.Result.{ForOk};
-ghost use Rattle.orb_io.specs.Told.{Gains, Pulls, HasCause};
+ghost use Rattle.orb_io.specs.Told.{Gives, Pulls, HasCause};
 ghost use Rattle.orb_engine.specs.declared.settings.Settings.{Settings};
 ghost use Rattle.orb_engine.specs.declared.outcome.EngineOutcome.{EngineOutcome};
 ghost use Rattle.orb_engine.specs.Runs.{settings_of, taken_by, HasRead, CanFeed, Ran, RunCauses};
@@ -20,8 +20,8 @@ const PULL: usize = 8192;
 impl Engine {
     /// One recording, from a source to a sink, beginning with no media states. It takes no memory.
     pub fn run<I: Source, O: Sink>(&mut self, input: &mut I, output: &mut O) -> EngineOutcome
-        ensures ran { Ran result self.new (settings_of self.old) (I.left input.old) (I.left input.new)
-            (O.put output.old) (O.put output.new) (O.size output.old) (O.size output.new) }
+        ensures ran { Gives (O.told output.old) (O.told output.new) []
+            (Ran result self.new (settings_of self.old) (I.left input.old) (I.left input.new)) }
         ensures causes { RunCauses result (I.faults input.old) (I.faults input.new)
             (O.faults output.old) (O.faults output.new) }
         ensures source { I.kept input.old input.new }
@@ -40,8 +40,8 @@ impl Engine {
 
     /// The same, from and to one object.
     pub fn run_link<K: Duplex>(&mut self, link: &mut K) -> EngineOutcome
-        ensures ran { Ran result self.new (settings_of self.old) (K.left link.old) (K.left link.new)
-            (K.put link.old) (K.put link.new) (K.size link.old) (K.size link.new) }
+        ensures ran { Gives (K.told link.old) (K.told link.new) []
+            (Ran result self.new (settings_of self.old) (K.left link.old) (K.left link.new)) }
         ensures causes { RunCauses result (K.Source.faults link.old) (K.Source.faults link.new)
             (K.Sink.faults link.old) (K.Sink.faults link.new) }
         ensures settings { settings_of self.new ≡ settings_of self.old }
@@ -67,10 +67,9 @@ impl Engine {
         requires within { ForOk pulled (λ n. n ≤ length room.now) }
         requires room { taken_by self.old ≤ 2 ^ 62 }
         requires few { ForOk pulled (λ n. taken_by self.old < 2 ^ 62 → taken_by self.old + n ≤ 2 ^ 62) }
-        ensures answers { (s : Settings) (m given : List ℕ) (put : Option (List ℕ)) (size : Option ℕ)
-            → HasRead self.old s m given → Gains put (O.put output.old) size (O.size output.old) given
-            → TurnAnswers result self.new s put (O.put output.new) size (O.size output.new)
-            (m ++ piece_of pulled room.now) (is_ended pulled) }
+        ensures answers { (s : Settings) (m given : List ℕ) → HasRead self.old s m given
+            → Gives (O.told output.old) (O.told output.new) given
+            (TurnAnswers result self.new s (m ++ piece_of pulled room.now) (is_ended pulled)) }
         ensures causes { (before after : ℕ) → HasCause before after pulled
             → TurnCauses result before after (O.faults output.old) (O.faults output.new) }
         ensures keeps { O.kept output.old output.new }

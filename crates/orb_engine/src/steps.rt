@@ -1,7 +1,9 @@
 //! One step through a recording: by the stage in which the engine is.
-ghost use Rattle.std.specs.Prelude.{◌≡◌, ◌≤◌, ◌+◌, ◌^◌, ◌++◌, ℕ, List, [], ◌-◌, length, Option, IfOk, IfSome};
+ghost use Rattle.std.specs.Prelude.{◌≡◌, ◌≤◌, ◌+◌, ◌^◌, ◌++◌, ℕ, List, [], ◌-◌, length, IfOk};
+ghost use Rattle.orb_io.specs.Told.{Gives};
 ghost use Rattle.orb_engine.specs.declared.settings.Settings.{Settings};
-ghost use Rattle.orb_engine.specs.Reads.{Reads, Steps, Settles, Causes, HasWholeRequest, HasWholeResponse};
+ghost use Rattle.orb_engine.specs.Texts.{IsHeadText};
+ghost use Rattle.orb_engine.specs.Reads.{Reads, Steps, Settles, Causes, HasRequest, HasResponse};
 
 use crate::engine::{Asked, Engine, Stage};
 use crate::heads::HeadTaken;
@@ -15,9 +17,8 @@ impl Engine {
         requires asking { self.old.stage ≡ Stage.Asking }
         requires can { (s : Settings) × (m : List ℕ) × (given : List ℕ) × Reads self.old s m given }
         requires few { self.old.taken + length piece.now ≤ 2 ^ 62 }
-        ensures steps { (s : Settings) (m given : List ℕ) (put : Option (List ℕ)) (size : Option ℕ)
-            → Reads self.old s m given → IfSome size (λ n. n ≤ 2 ^ 64 - 1)
-            → Steps result self.new s put put size size m given piece.now }
+        ensures steps { (s : Settings) (m given : List ℕ) → Reads self.old s m given
+            → Steps result self.new s m piece.now given }
         ensures moves { 1 ≤ length piece.now → IfOk result (λ used. 1 ≤ used) }
         ensures calm { (n : ℕ) → Causes result n n }
         ensures taken { IfOk result (λ used. self.new.taken ≡ self.old.taken + used) }
@@ -41,10 +42,10 @@ impl Engine {
 
     /// Reads the request head that has come.
     fn begin_answer(&mut self) -> Result<(), EngineOutcome>
-        requires can { (s : Settings) × (m : List ℕ) × (given : List ℕ) × HasWholeRequest self.old s m given }
-        ensures settles { (s : Settings) (m given : List ℕ) (put : Option (List ℕ)) (size : Option ℕ)
-            → HasWholeRequest self.old s m given → IfSome size (λ n. n ≤ 2 ^ 64 - 1)
-            → Settles result self.new s put put size size m given }
+        requires can { (s : Settings) × (m : List ℕ) × (given : List ℕ) 
+            × HasRequest IsHeadText self.old s m given }
+        ensures settles { (s : Settings) (m given : List ℕ) → HasRequest IsHeadText self.old s m given
+            → Settles result self.new s m given }
         ensures calm { (n : ℕ) → Causes result n n }
         ensures taken { self.new.taken ≡ self.old.taken }
         ensures settings { self.new.writer.settings ≡ self.old.writer.settings }
@@ -83,8 +84,7 @@ impl Engine {
         requires can { (s : Settings) × (m : List ℕ) × (given : List ℕ) × Reads self.old s m given }
         requires few { self.old.taken + length piece.now ≤ 2 ^ 62 }
         ensures steps { (s : Settings) (m given : List ℕ) → Reads self.old s m given
-            → Steps result self.new s (O.put output.old) (O.put output.new)
-            (O.size output.old) (O.size output.new) m given piece.now }
+            → Gives (O.told output.old) (O.told output.new) given (Steps result self.new s m piece.now) }
         ensures moves { 1 ≤ length piece.now → IfOk result (λ used. 1 ≤ used) }
         ensures causes { Causes result (O.faults output.old) (O.faults output.new) }
         ensures keeps { O.kept output.old output.new }
@@ -109,11 +109,11 @@ impl Engine {
 
     /// Reads the response head that has come.
     fn begin_body<O: Sink>(&mut self, asked: Asked, output: &mut O) -> Result<(), EngineOutcome>
-        requires can { (s : Settings) × (m : List ℕ) × (given : List ℕ) × HasWholeResponse asked self.old s m given }
+        requires can { (s : Settings) × (m : List ℕ) × (given : List ℕ) 
+            × HasResponse IsHeadText asked self.old s m given }
         requires few { self.old.taken ≤ 2 ^ 62 }
-        ensures settles { (s : Settings) (m given : List ℕ) → HasWholeResponse asked self.old s m given
-            → Settles result self.new s (O.put output.old) (O.put output.new)
-            (O.size output.old) (O.size output.new) m given }
+        ensures settles { (s : Settings) (m given : List ℕ) → HasResponse IsHeadText asked self.old s m given
+            → Gives (O.told output.old) (O.told output.new) given (Settles result self.new s m) }
         ensures causes { Causes result (O.faults output.old) (O.faults output.new) }
         ensures keeps { O.kept output.old output.new }
         ensures taken { self.new.taken ≡ self.old.taken }

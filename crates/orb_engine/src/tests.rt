@@ -2,7 +2,7 @@
 ghost use Rattle.std.specs.Prelude.{◌≡◌, ◌≤◌, ◌+◌, ◌-◌, ◌^◌, Some, None, length};
 ghost use Rattle.std.proofs.Common.{refl, ap, ◌∙◌};
 ghost use Rattle.std.proofs.Math.Nat.{min-le_right as min_le_right};
-ghost use Rattle.orb_io.specs.Memory.{told_size};
+ghost use Rattle.orb_io.specs.Told.{told_bytes};
 ghost use Rattle.orb_engine.specs.Runs.{taken_by, CanFeed};
 
 use crate::{Engine, EngineOutcome, Job, Settings};
@@ -195,17 +195,16 @@ impl Source for WatchedLink {
 }
 
 impl Sink for WatchedLink {
-    ghost put = { λ s. Some s.link.sink.bytes };
-
-    ghost size = { λ s. told_size s.link.sink.bytes };
+    ghost told = { λ s. told_bytes s.link.sink.bytes };
 
     ghost faults = { λ s. s.link.sink.faults };
 
     ghost kept = { λ s t. t.link.source ≡ s.link.source };
 
-    ghost number = { λ _. refl };
-
-    ghost number_fits = { λ s. min_le_right (length s.link.sink.bytes) (2 ^ 64 - 1) };
+    ghost told_agrees = { λ s. record {
+      number = refl;
+      fits = min_le_right (length s.link.sink.bytes) (2 ^ 64 - 1);
+    } };
 
     ghost kept_reflexive = { λ _. refl };
 
@@ -217,9 +216,7 @@ impl Sink for WatchedLink {
 }
 
 impl Duplex for WatchedLink {
-    ghost pull_leaves_put = { λ _ _ same. ap (λ k. Some k.bytes) same };
-
-    ghost pull_leaves_size = { λ _ _ same. ap (λ k. told_size k.bytes) same };
+    ghost pull_leaves_told = { λ _ _ same. ap (λ k. told_bytes k.bytes) same };
 
     ghost pull_leaves_faults = { λ _ _ same. ap (λ k. k.faults) same };
 

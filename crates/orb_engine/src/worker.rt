@@ -1,6 +1,7 @@
 //! The work on one response: to filter it, or to tell its verdict.
 ghost use Rattle.std.specs.Prelude.{◌≡◌, ◌≤◌, ◌++◌, ℕ, List, [], ◌∷◌, length, is_some, true};
-ghost use Rattle.orb_io.specs.Told.{HasCause};
+ghost use Rattle.orb_io.specs.Told.{Delivers};
+ghost use Rattle.orb_io.specs.Calls.{Calls};
 ghost use Rattle.response_rules.specs.Heads.{Head};
 ghost use Rattle.response_rules.specs.Tables.{window_rule_of};
 ghost use Rattle.response_rules.specs.Reads.{HasRead as DeciderHasRead, IsVerdict};
@@ -26,7 +27,7 @@ impl Worker {
     ghost use Rattle.std.specs.Prelude.{IfOk};
     ghost use Rattle.orb_engine.specs.declared.settings.Settings.{Settings};
     ghost use Rattle.orb_engine.specs.Outputs.{written_front, written_whole};
-    ghost use Rattle.orb_engine.specs.Workers.{IsWorkerFor, IsNewFor, Works, Puts};
+    ghost use Rattle.orb_engine.specs.Workers.{IsWorkerFor, IsNewFor, Works};
 
     /// One that does the job of the settings.
     pub(crate) fn open(alloc: Global, settings: Settings) -> Result<Worker, NoMemory>
@@ -53,12 +54,11 @@ impl Worker {
     ) -> Result<(), WriteFault>
         requires short { length head.now ≤ 65536 }
         requires made { (s : Settings) × (h : Head) × IsWorkerFor self.old s × IsNewFor decider s h }
-        ensures puts { (s : Settings) (h : Head) → IsWorkerFor self.old s → IsNewFor decider s h
-            → Puts result (O.put sink.old) (O.put sink.new) (O.size sink.old) (O.size sink.new)
+        ensures delivers { (s : Settings) (h : Head) → IsWorkerFor self.old s → IsNewFor decider s h
+            → Delivers result (O.told sink.old) (O.told sink.new)
             [] (written_front s.job (exchange_of h head.now chunked) [])
             (λ _. Works self.new s (exchange_of h head.now chunked) []) }
-        ensures cause { HasCause (O.faults sink.old) (O.faults sink.new) result }
-        ensures keeps { O.kept sink.old sink.new }
+        ensures calls { Calls O.Sink result sink.old sink.new }
         ensures worker { (s : Settings) → IsWorkerFor self.old s → IsWorkerFor self.new s }
     {
         match self {
@@ -73,12 +73,11 @@ impl Worker {
     /// Reads the next piece of its body.
     pub(crate) fn feed<O: Sink>(&mut self, body: &[u8], sink: &mut O) -> Result<(), WriteFault>
         requires { (s : Settings) × (x : Exchange) × (m : List ℕ) × Works self.old s x m }
-        ensures puts { (s : Settings) (x : Exchange) (m : List ℕ) → Works self.old s x m
-            → Puts result (O.put sink.old) (O.put sink.new) (O.size sink.old) (O.size sink.new)
+        ensures delivers { (s : Settings) (x : Exchange) (m : List ℕ) → Works self.old s x m
+            → Delivers result (O.told sink.old) (O.told sink.new)
             (written_front s.job x m) (written_front s.job x (m ++ body.now))
             (λ _. Works self.new s x (m ++ body.now)) }
-        ensures cause { HasCause (O.faults sink.old) (O.faults sink.new) result }
-        ensures keeps { O.kept sink.old sink.new }
+        ensures calls { Calls O.Sink result sink.old sink.new }
         ensures worker { (s : Settings) → IsWorkerFor self.old s → IsWorkerFor self.new s }
     {
         match self {
@@ -100,11 +99,10 @@ impl Worker {
     ) -> Result<Verdict, WriteFault>
         requires { (s : Settings) × (x : Exchange) × (m : List ℕ) × Works self.old s x m
             × (is_some (window_rule_of x.head m) ≡ true) }
-        ensures puts { (s : Settings) (x : Exchange) (m : List ℕ) → Works self.old s x m → size ≡ length m
-            → Puts result (O.put sink.old) (O.put sink.new) (O.size sink.old) (O.size sink.new)
+        ensures delivers { (s : Settings) (x : Exchange) (m : List ℕ) → Works self.old s x m → size ≡ length m
+            → Delivers result (O.told sink.old) (O.told sink.new)
             (written_front s.job x m) (written_whole s.job number x m) (λ v. IsVerdict x.head m v) }
-        ensures cause { HasCause (O.faults sink.old) (O.faults sink.new) result }
-        ensures keeps { O.kept sink.old sink.new }
+        ensures calls { Calls O.Sink result sink.old sink.new }
         ensures worker { (s : Settings) → IsWorkerFor self.old s → IsWorkerFor self.new s }
     {
         match self {

@@ -4,7 +4,8 @@
 //! itself, behind what was gathered: so short exchanges go out many in one push, and a long body goes
 //! straight through.
 ghost use Rattle.std.specs.Prelude.{◌≡◌, ◌≤◌, ◌+◌, ◌*◌, ◌^◌, ◌++◌, ℕ, List, [], length, is_some, true};
-ghost use Rattle.orb_io.specs.Told.{Pushes, HasCause};
+ghost use Rattle.orb_io.specs.Told.{Gives, Delivers};
+ghost use Rattle.orb_io.specs.Calls.{Calls};
 ghost use Rattle.orb_engine.specs.Workers.{IsWorkerFor};
 ghost use Rattle.orb_engine.specs.WorkerLaws.{IsWorkerFor-prop};
 ghost use Rattle.response_rules.specs.Heads.{Head};
@@ -17,7 +18,7 @@ use crate::boxes::Outbox;
 use crate::settings::Settings;
 use crate::worker::Worker;
 use body_filter::WriteFault;
-use orb_io::{NoMemory, Sink};
+use orb_io::{Failed, NoMemory, Sink, push_nonempty};
 use response_rules::{Decider, Rule, Verdict};
 use std::alloc::Global;
 
@@ -44,7 +45,7 @@ impl Writer {
     ghost use Rattle.orb_engine.specs.Boxes.{empty_box};
     ghost use Rattle.orb_engine.specs.Outputs.{written_front, written_whole};
     ghost use Rattle.orb_engine.specs.Workers.{IsNewFor};
-    ghost use Rattle.orb_engine.specs.Writing.{IsWriterFor, WriterReads, CanGoOn, CanClose, Passes, IsSameBut, box_of, body_of};
+    ghost use Rattle.orb_engine.specs.Writing.{IsWriterFor, WriterReads, CanGoOn, CanClose, Passes, IsSameBut, box_of, gathered_by, body_of};
 
     /// One whose worker does the job of the settings.
     pub(crate) fn open(alloc: Global, settings: Settings) -> Result<Writer, NoMemory>
@@ -73,18 +74,17 @@ impl Writer {
 
     /// Pushes what was gathered.
     pub(crate) fn flush<O: Sink>(&mut self, output: &mut O) -> Result<(), WriteFault>
-        ensures passes { Passes result (box_of self.old) (box_of self.new) (O.put output.old) (O.put output.new)
-            (O.size output.old) (O.size output.new) [] [] (λ _. box_of self.new ≡ empty_box) }
-        ensures cause { HasCause (O.faults output.old) (O.faults output.new) result }
-        ensures keeps { O.kept output.old output.new }
+        ensures delivers { (given : List ℕ) → Delivers result (O.told output.old) (O.told output.new)
+            given (given ++ gathered_by self.old) (λ _. box_of self.new ≡ empty_box) }
+        ensures calls { Calls O.Sink result output.old output.new }
         ensures same { IsSameBut self.old self.new }
     {
-        match push_all(self.outbox.as_slice(), output) {
+        match push_nonempty(self.outbox.as_slice(), output) {
             Ok(()) => {
                 self.outbox.clear();
                 Ok(())
             }
-            Err(fault) => Err(fault),
+            Err(Failed) => Err(WriteFault),
         }
     }
 
@@ -98,13 +98,11 @@ impl Writer {
     ) -> Result<(), WriteFault>
         requires short { length head.now ≤ 65536 }
         requires made { (s : Settings) × (h : Head) × IsWriterFor self.old s × IsNewFor decider s h }
-        ensures passes { (s : Settings) (h : Head) → IsWriterFor self.old s → IsNewFor decider s h
-            → Passes result (box_of self.old) (box_of self.new) (O.put output.old) (O.put output.new)
-            (O.size output.old) (O.size output.new)
-            [] (written_front s.job (exchange_of h head.now chunked) [])
-            (λ _. WriterReads self.new s (exchange_of h head.now chunked) []) }
-        ensures cause { HasCause (O.faults output.old) (O.faults output.new) result }
-        ensures keeps { O.kept output.old output.new }
+        ensures passes { (s : Settings) (h : Head) (given : List ℕ) → IsWriterFor self.old s → IsNewFor decider s h
+            → Gives (O.told output.old) (O.told output.new) given (Passes result self.new
+            ((given ++ gathered_by self.old) ++ written_front s.job (exchange_of h head.now chunked) [])
+            (λ _. WriterReads self.new s (exchange_of h head.now chunked) [])) }
+        ensures calls { Calls O.Sink result output.old output.new }
         ensures settings { self.new.settings ≡ self.old.settings }
     {
         self.head = head.len() as u64;
@@ -126,13 +124,11 @@ impl Writer {
     pub(crate) fn feed<O: Sink>(&mut self, body: &[u8], output: &mut O) -> Result<(), WriteFault>
         requires can { CanGoOn self.old }
         requires few { body_of self.old + length body.now ≤ 2 ^ 62 }
-        ensures passes { (s : Settings) (x : Exchange) (m : List ℕ) → WriterReads self.old s x m
-            → Passes result (box_of self.old) (box_of self.new) (O.put output.old) (O.put output.new)
-            (O.size output.old) (O.size output.new)
-            (written_front s.job x m) (written_front s.job x (m ++ body.now))
-            (λ _. WriterReads self.new s x (m ++ body.now)) }
-        ensures cause { HasCause (O.faults output.old) (O.faults output.new) result }
-        ensures keeps { O.kept output.old output.new }
+        ensures passes { (s : Settings) (x : Exchange) (m given before : List ℕ) → WriterReads self.old s x m
+            → given ++ gathered_by self.old ≡ before ++ written_front s.job x m
+            → Gives (O.told output.old) (O.told output.new) given (Passes result self.new
+            (before ++ written_front s.job x (m ++ body.now)) (λ _. WriterReads self.new s x (m ++ body.now))) }
+        ensures calls { Calls O.Sink result output.old output.new }
         ensures settings { self.new.settings ≡ self.old.settings }
     {
         self.body += body.len() as u64;
@@ -156,13 +152,11 @@ impl Writer {
         output: &mut O,
     ) -> Result<Verdict, WriteFault>
         requires { CanClose self.old }
-        ensures passes { (s : Settings) (x : Exchange) (m : List ℕ) → WriterReads self.old s x m
-            → Passes result (box_of self.old) (box_of self.new) (O.put output.old) (O.put output.new)
-            (O.size output.old) (O.size output.new)
-            (written_front s.job x m) (written_whole s.job number x m)
-            (λ v. IsVerdict x.head m v × IsWriterFor self.new s) }
-        ensures cause { HasCause (O.faults output.old) (O.faults output.new) result }
-        ensures keeps { O.kept output.old output.new }
+        ensures passes { (s : Settings) (x : Exchange) (m given before : List ℕ) → WriterReads self.old s x m
+            → given ++ gathered_by self.old ≡ before ++ written_front s.job x m
+            → Gives (O.told output.old) (O.told output.new) given (Passes result self.new
+            (before ++ written_whole s.job number x m) (λ v. IsVerdict x.head m v × IsWriterFor self.new s)) }
+        ensures calls { Calls O.Sink result output.old output.new }
         ensures settings { self.new.settings ≡ self.old.settings }
     {
         if self.outbox.has_room(self.most()) {
@@ -208,21 +202,5 @@ impl Writer {
         ensures { result ≡ self.now.head + 2 * self.now.body + 128 }
     {
         self.head + 2 * self.body + 128
-    }
-}
-
-/// Pushes the bytes, where there are any.
-fn push_all<O: Sink>(bytes: &[u8], output: &mut O) -> Result<(), WriteFault>
-    ensures bytes { Pushes (O.put output.old) (O.put output.new) (O.size output.old) (O.size output.new)
-        result bytes.now }
-    ensures cause { HasCause (O.faults output.old) (O.faults output.new) result }
-    ensures keeps { O.kept output.old output.new }
-{
-    if bytes.is_empty() {
-        return Ok(());
-    }
-    match output.push(bytes) {
-        Ok(()) => Ok(()),
-        Err(_) => Err(WriteFault),
     }
 }

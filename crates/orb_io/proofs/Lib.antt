@@ -1,2 +1,4 @@
 pub mod ToldLemmas
+pub mod GivesLemmas
+pub mod CallLemmas
 mod StreamLemmas

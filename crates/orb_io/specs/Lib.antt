@@ -3,3 +3,4 @@ pub mod Counts
 pub mod Memory
 pub mod Streams
 pub mod Adapters
+pub mod Calls

@@ -1,5 +1,5 @@
 -- The sources, sinks and links in memory as their contracts see them, and what one call on them does.
-use Rattle.std.specs.Prelude.{◌≡◌, ℕ, ◌+◌, ◌-◌, ◌^◌, Bool, true, false, ◌||◌, ◌==◌, nat_lt, min, List, [], ◌++◌, length, take, drop, Option, Some, Result, Ok, Err, if◌then◌else◌}
+use Rattle.std.specs.Prelude.{◌≡◌, ℕ, ◌+◌, ◌-◌, ◌^◌, Bool, true, false, ◌||◌, ◌==◌, nat_lt, min, List, [], ◌++◌, length, take, drop, Result, Ok, Err, if◌then◌else◌}
 use Rattle.std.specs.List.{list_any}
 use Rattle.orb_io.specs.Counts.{one_more}
 
@@ -49,10 +49,6 @@ PullsInMemory s s' (Ok n) room =
 PullsInMemory s s' (Err failed) room =
     (fails_at s.fails s.calls ≡ true)
     × (s' ≡ record s { calls = one_more s.calls; faults = one_more s.faults })
-
--- the size that a sink in memory tells of its bytes
-abbrev pub told_size : List ℕ → Option ℕ
-told_size bytes = Some (min (length bytes) (2 ^ 64 - 1))
 
 -- whether a push fails: its number is one that does, or the piece doesn't fit
 abbrev pub refuses : SinkState → List ℕ → Bool

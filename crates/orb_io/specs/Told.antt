@@ -1,6 +1,34 @@
 -- What an object of the outside tells of its bytes, and how its count of faults goes.
 -- `None` is untold. Whether an object tells never changes, so the mixed cases hold of no call.
-use Rattle.std.specs.Prelude.{◌≡◌, ℕ, ◌+◌, ◌-◌, ◌^◌, ◌<◌, ◌≤◌, min, List, [], ◌++◌, length, take, ⊤, Option, None, Some, Result, Ok, Err}
+use Rattle.std.specs.Prelude.{◌≡◌, ℕ, ◌+◌, ◌-◌, ◌^◌, ◌<◌, ◌≤◌, min, List, [], ◌++◌, length, take, ⊤, Option, None, Some, IfSome, Result, Ok, Err}
+
+-- what a sink tells: the bytes so far, and the lesser of their number and the last u64
+pub record Told : Type 0 where
+  pub put : Option (List ℕ)
+  pub size : Option ℕ
+
+-- a sink that tells neither
+abbrev pub untold : Told
+untold = record { put = None; size = None }
+
+-- one that tells the number alone
+abbrev pub told_number : ℕ → Told
+told_number n = record { put = None; size = Some (min n (2 ^ 64 - 1)) }
+
+-- one that tells both
+abbrev pub told_bytes : List ℕ → Told
+told_bytes bytes = record { put = Some bytes; size = Some (min (length bytes) (2 ^ 64 - 1)) }
+
+-- the size, where it and the bytes are told, is the lesser of their number and the last u64
+abbrev pub NumberOf : Option (List ℕ) → Option ℕ → Type 0
+NumberOf None size = ⊤
+NumberOf (Some put) None = ⊤
+NumberOf (Some put) (Some size) = size ≡ min (length put) (2 ^ 64 - 1)
+
+-- what is told agrees with itself, and its size is a u64
+pub record Agrees (told : Told) : Type 0 where
+  pub number : NumberOf told.put told.size
+  pub fits : IfSome told.size (λ n. n ≤ 2 ^ 64 - 1)
 
 -- the bytes still to come began with these, and lost them
 abbrev pub Loses : Option (List ℕ) → Option (List ℕ) → List ℕ → Type 0
@@ -28,27 +56,34 @@ GainsNumber None (Some after) n = ⊥
 GainsNumber (Some before) None n = ⊥
 GainsNumber (Some before) (Some after) n = after ≡ min (before + n) (2 ^ 64 - 1)
 
--- what was put and its size grew by these bytes
-pub record Gains (put put' : Option (List ℕ)) (size size' : Option ℕ) (gained : List ℕ) : Type 0
-  where
-    pub bytes : GainsBytes put put' gained
-    pub number : GainsNumber size size' (length gained)
+-- what a sink tells grew by these bytes
+pub record Gains (old new : Told) (gained : List ℕ) : Type 0 where
+  pub bytes : GainsBytes old.put new.put gained
+  pub number : GainsNumber old.size new.size (length gained)
 
--- the text begins with the front
+-- the text begins with the prefix
 abbrev pub IsPrefix : List ℕ → List ℕ → Type 0
-IsPrefix front text = (rest : List ℕ) × (text ≡ front ++ rest)
+IsPrefix prefix text = (rest : List ℕ) × (text ≡ prefix ++ rest)
 
--- what was put and its size grew by some front of the piece
-abbrev pub GainsPrefix : Option (List ℕ) → Option (List ℕ) → Option ℕ → Option ℕ → List ℕ
-    → Type 0
-GainsPrefix put put' size size' piece =
-    (front : List ℕ) × IsPrefix front piece × Gains put put' size size' front
+-- what a sink tells grew by some prefix of the piece
+abbrev pub GainsPrefix : Told → Told → List ℕ → Type 0
+GainsPrefix old new piece = (prefix : List ℕ) × IsPrefix prefix piece × Gains old new prefix
 
--- the size, where it and the bytes are told, is the lesser of their number and the last u64
-abbrev pub NumberOf : Option (List ℕ) → Option ℕ → Type 0
-NumberOf None size = ⊤
-NumberOf (Some put) None = ⊤
-NumberOf (Some put) (Some size) = size ≡ min (length put) (2 ^ 64 - 1)
+-- the sink gained some bytes, and this holds of all that it was given, with those
+pub record Gives (old new : Told) (given : List ℕ) (P : List ℕ → Type 0) : Type 0 where
+  pub more : List ℕ
+  pub gained : Gains old new more
+  pub holds : P (given ++ more)
+
+-- all that is owed was given, and this holds of the value; at an `Err` a prefix of it was given
+abbrev pub Owes : {T E : Type 0} → Result T E → (owed : List ℕ) → (T → Type 0) → List ℕ → Type 0
+Owes (Ok value) owed P given = (given ≡ owed) × P value
+Owes (Err fault) owed P given = IsPrefix given owed
+
+-- the sink gained what was not given yet of what is owed, and this holds of the value; at an `Err` it
+-- gained a prefix of that
+abbrev pub Delivers : {T E : Type 0} → Result T E → (old new : Told) → (given owed : List ℕ) → (T → Type 0) → Type 0
+Delivers result old new given owed P = Gives old new given (Owes result owed P)
 
 -- the count rose, unless it stands at the last u64; it never falls
 abbrev pub Rose : ℕ → ℕ → Type 0
@@ -65,8 +100,7 @@ abbrev pub Pulls : {E : Type 0} → Option (List ℕ) → Option (List ℕ) → 
 Pulls left left' (Ok n) buf = Loses left left' (take n buf) × (n ≡ 0 → 0 < length buf → IsAtEnd left')
 Pulls left left' (Err failed) buf = Loses left left' []
 
--- a push put the whole piece, and at an `Err` some front of it
-abbrev pub Pushes : {T E : Type 0} → Option (List ℕ) → Option (List ℕ) → Option ℕ → Option ℕ
-    → Result T E → List ℕ → Type 0
-Pushes put put' size size' (Ok done) piece = Gains put put' size size' piece
-Pushes put put' size size' (Err failed) piece = GainsPrefix put put' size size' piece
+-- a push put the whole piece, and at an `Err` some prefix of it
+abbrev pub Pushes : {T E : Type 0} → Result T E → (old new : Told) → List ℕ → Type 0
+Pushes (Ok done) old new piece = Gains old new piece
+Pushes (Err failed) old new piece = GainsPrefix old new piece

@@ -1,6 +1,6 @@
 //! A sink that only counts.
-ghost use Rattle.std.specs.Prelude.{◌≡◌, ◌+◌, ◌-◌, ◌^◌, min, None, Some, length};
-ghost use Rattle.orb_io.specs.Told.{Pushes, HasCause};
+ghost use Rattle.std.specs.Prelude.{◌≡◌, ◌+◌, ◌-◌, ◌^◌, min, Some, length};
+ghost use Rattle.orb_io.specs.Told.{Pushes, HasCause, told_number};
 ghost use Rattle.std.proofs.Math.Nat.{min-le_right as min_le_right};
 
 use crate::outside::{Failed, Sink};
@@ -31,33 +31,28 @@ impl CountingSink {
     /// How many bytes were put; past the last `u64` the number stays there.
     pub fn count(&self) -> u64
         ensures value { result ≡ self.now }
-        ensures size { ⟦<CountingSink as Sink>⟧.size self.now ≡ Some result }
+        ensures size { (⟦<CountingSink as Sink>⟧.told self.now).size ≡ Some result }
     {
         self.count
     }
 }
 
 impl Sink for CountingSink {
-    ghost put = { λ _. None };
-
     // In a law the number may be any.
-    ghost size = { λ s. Some (min s (2 ^ 64 - 1)) };
+    ghost told = { λ s. told_number s };
 
     ghost faults = { λ _. 0 };
 
     ghost kept = { λ _ _. Unit {0} };
 
-    ghost number = { λ _. tt };
-
-    ghost number_fits = { λ s. min_le_right s (2 ^ 64 - 1) };
+    ghost told_agrees = { λ s. record { number = tt; fits = min_le_right s (2 ^ 64 - 1) } };
 
     ghost kept_reflexive = { λ _. tt };
 
     ghost kept_transitive = { λ _ _ _ _ _. tt };
 
     fn push(&mut self, piece: &[u8]) -> Result<(), Failed>
-        ensures bytes { Pushes None None (Some (min self.old (2 ^ 64 - 1)))
-            (Some (min self.new (2 ^ 64 - 1))) result piece.now }
+        ensures bytes { Pushes result (told_number self.old) (told_number self.new) piece.now }
         ensures cause { HasCause 0 0 result }
         ensures count { self.new ≡ min (self.old + length piece.now) (2 ^ 64 - 1) }
     {

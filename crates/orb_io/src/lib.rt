@@ -16,6 +16,7 @@ mod memory_sink;
 mod memory_source;
 mod never_fails;
 mod outside;
+mod pushing;
 mod streams;
 mod supply;
 
@@ -25,4 +26,5 @@ pub use memory_sink::MemorySink;
 pub use memory_source::MemorySource;
 pub use never_fails::NeverFails;
 pub use outside::{Duplex, Failed, NoMemory, Sink, Source};
+pub use pushing::push_nonempty;
 pub use streams::{StdSink, StdSource};

@@ -1,8 +1,8 @@
 //! A link in memory.
 ghost use Rattle.std.specs.Prelude.{◌≡◌, ◌-◌, ◌^◌, Some, length};
 ghost use Rattle.std.specs.Io.{ReadsAtMost};
-ghost use Rattle.orb_io.specs.Told.{Pulls, Pushes, HasCause};
-ghost use Rattle.orb_io.specs.Memory.{PullsInMemory, PushesInMemory, told_size};
+ghost use Rattle.orb_io.specs.Told.{Pulls, Pushes, HasCause, told_bytes};
+ghost use Rattle.orb_io.specs.Memory.{PullsInMemory, PushesInMemory};
 ghost use Rattle.std.proofs.Common.{refl, ap, ◌∙◌};
 ghost use Rattle.std.proofs.Math.Nat.{min-le_right as min_le_right};
 
@@ -65,25 +65,24 @@ impl Source for MemoryLink {
 }
 
 impl Sink for MemoryLink {
-    ghost put = { λ s. Some s.sink.bytes };
-
-    ghost size = { λ s. told_size s.sink.bytes };
+    ghost told = { λ s. told_bytes s.sink.bytes };
 
     ghost faults = { λ s. s.sink.faults };
 
     ghost kept = { λ s t. t.source ≡ s.source };
 
-    ghost number = { λ _. refl };
-
-    ghost number_fits = { λ s. min_le_right (length s.sink.bytes) (2 ^ 64 - 1) };
+    ghost told_agrees = { λ s. record {
+      number = refl;
+      fits = min_le_right (length s.sink.bytes) (2 ^ 64 - 1);
+    } };
 
     ghost kept_reflexive = { λ _. refl };
 
     ghost kept_transitive = { λ _ _ _ p q. q ∙ p };
 
     fn push(&mut self, piece: &[u8]) -> Result<(), Failed>
-        ensures bytes { Pushes (Some self.old.sink.bytes) (Some self.new.sink.bytes)
-            (told_size self.old.sink.bytes) (told_size self.new.sink.bytes) result piece.now }
+        ensures bytes { Pushes result (told_bytes self.old.sink.bytes) (told_bytes self.new.sink.bytes)
+            piece.now }
         ensures cause { HasCause self.old.sink.faults self.new.sink.faults result }
         ensures keeps { self.new.source ≡ self.old.source }
         ensures does { PushesInMemory self.old.sink self.new.sink result piece.now }
@@ -93,9 +92,7 @@ impl Sink for MemoryLink {
 }
 
 impl Duplex for MemoryLink {
-    ghost pull_leaves_put = { λ _ _ same. ap (λ k. Some k.bytes) same };
-
-    ghost pull_leaves_size = { λ _ _ same. ap (λ k. told_size k.bytes) same };
+    ghost pull_leaves_told = { λ _ _ same. ap (λ k. told_bytes k.bytes) same };
 
     ghost pull_leaves_faults = { λ _ _ same. ap (λ k. k.faults) same };
 

@@ -1,7 +1,7 @@
 //! A sink in memory.
-ghost use Rattle.std.specs.Prelude.{◌≡◌, ◌+◌, ◌-◌, ◌^◌, ◌≤◌, ◌++◌, [], Some, IfOk, length, vec_len, vec_capacity};
-ghost use Rattle.orb_io.specs.Told.{Pushes, HasCause};
-ghost use Rattle.orb_io.specs.Memory.{PushesInMemory, told_size};
+ghost use Rattle.std.specs.Prelude.{◌≡◌, ◌+◌, ◌-◌, ◌^◌, ◌≤◌, ◌++◌, [], IfOk, length, vec_len, vec_capacity};
+ghost use Rattle.orb_io.specs.Told.{Pushes, HasCause, told_bytes};
+ghost use Rattle.orb_io.specs.Memory.{PushesInMemory};
 ghost use Rattle.std.proofs.Common.{refl};
 ghost use Rattle.std.proofs.Math.Nat.{min-le_right as min_le_right};
 
@@ -70,25 +70,23 @@ impl MemorySink {
 }
 
 impl Sink for MemorySink {
-    ghost put = { λ s. Some s.bytes };
-
-    ghost size = { λ s. told_size s.bytes };
+    ghost told = { λ s. told_bytes s.bytes };
 
     ghost faults = { λ s. s.faults };
 
     ghost kept = { λ _ _. Unit {0} };
 
-    ghost number = { λ _. refl };
-
-    ghost number_fits = { λ s. min_le_right (length s.bytes) (2 ^ 64 - 1) };
+    ghost told_agrees = { λ s. record {
+      number = refl;
+      fits = min_le_right (length s.bytes) (2 ^ 64 - 1);
+    } };
 
     ghost kept_reflexive = { λ _. tt };
 
     ghost kept_transitive = { λ _ _ _ _ _. tt };
 
     fn push(&mut self, piece: &[u8]) -> Result<(), Failed>
-        ensures bytes { Pushes (Some self.old.bytes) (Some self.new.bytes)
-            (told_size self.old.bytes) (told_size self.new.bytes) result piece.now }
+        ensures bytes { Pushes result (told_bytes self.old.bytes) (told_bytes self.new.bytes) piece.now }
         ensures cause { HasCause self.old.faults self.new.faults result }
         ensures does { PushesInMemory self.old self.new result piece.now }
     {

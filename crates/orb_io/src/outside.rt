@@ -1,7 +1,7 @@
 //! What bytes come from and go to.
-ghost use Rattle.std.specs.Prelude.{◌≡◌, ℕ, ◌-◌, ◌^◌, ◌≤◌, List, Option, IfSome};
+ghost use Rattle.std.specs.Prelude.{◌≡◌, ℕ, List, Option};
 ghost use Rattle.std.specs.Io.{ReadsAtMost};
-ghost use Rattle.orb_io.specs.Told.{Pulls, Pushes, HasCause, NumberOf};
+ghost use Rattle.orb_io.specs.Told.{Told, Agrees, Pulls, Pushes, HasCause};
 
 /// A pull or a push that failed.
 #[derive(Clone, Copy, Debug, PartialEq, Eq)]
@@ -22,7 +22,7 @@ pub trait Source {
     // What every pull leaves as it was, from the state before to the state after.
     ghost kept: { Self → Self → Type 0 };
 
-    /// Takes the next bytes into the front of `buf`, and answers how many: none only at the end of
+    /// Takes the next bytes into the first places of `buf`, and answers how many: none only at the end of
     /// the input or where `buf` is empty. The rest of `buf`, and after [`Failed`] all of it, may
     /// hold anything.
     ///
@@ -40,11 +40,8 @@ pub trait Source {
 
 /// What bytes go to.
 pub trait Sink {
-    // The bytes so far, where they are told.
-    ghost put: { Self → Option (List ℕ) };
-
-    // The lesser of their number and the last u64, where it is told.
-    ghost size: { Self → Option ℕ };
+    // The bytes so far, and the lesser of their number and the last u64, each where it is told.
+    ghost told: { Self → Told };
 
     // How many faults there were.
     ghost faults: { Self → ℕ };
@@ -54,17 +51,14 @@ pub trait Sink {
 
     /// Appends the whole piece.
     ///
-    /// Answers [`Failed`] only where the count of faults rose, and then a front of the piece was
+    /// Answers [`Failed`] only where the count of faults rose, and then a prefix of the piece was
     /// appended.
     fn push(&mut self, piece: &[u8]) -> Result<(), Failed>
-        ensures bytes { Pushes (put self.old) (put self.new) (size self.old) (size self.new)
-            result piece.now }
+        ensures bytes { Pushes result (told self.old) (told self.new) piece.now }
         ensures cause { HasCause (faults self.old) (faults self.new) result }
         ensures keeps { kept self.old self.new };
 
-    ghost number: { (s : Self) → NumberOf (put s) (size s) };
-
-    ghost number_fits: { (s : Self) → IfSome (size s) (λ n. n ≤ 2 ^ 64 - 1) };
+    ghost told_agrees: { (s : Self) → Agrees (told s) };
 
     ghost kept_reflexive: { (s : Self) → kept s s };
 
@@ -73,9 +67,7 @@ pub trait Sink {
 
 /// A source and a sink at once: a pull leaves the sink as it was, and a push the source.
 pub trait Duplex: Source + Sink {
-    ghost pull_leaves_put: { (s t : Self) → Self.Source.kept s t → Self.put t ≡ Self.put s };
-
-    ghost pull_leaves_size: { (s t : Self) → Self.Source.kept s t → Self.size t ≡ Self.size s };
+    ghost pull_leaves_told: { (s t : Self) → Self.Source.kept s t → Self.told t ≡ Self.told s };
 
     ghost pull_leaves_faults: { (s t : Self) → Self.Source.kept s t
         → Self.Sink.faults t ≡ Self.Sink.faults s };

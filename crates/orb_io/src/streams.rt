@@ -5,7 +5,7 @@
 ghost use Rattle.std.specs.Prelude.{◌≡◌, None};
 ghost use Rattle.std.specs.Io.{ReadsAtMost};
 ghost use Rattle.std.specs.Io.KnownBytes.{ReadConsumes};
-ghost use Rattle.orb_io.specs.Told.{Pulls, Pushes, HasCause};
+ghost use Rattle.orb_io.specs.Told.{Pulls, Pushes, HasCause, untold};
 ghost use Rattle.orb_io.specs.Counts.{CountsFault};
 ghost use Rattle.orb_io.specs.Streams.{PushAppends};
 
@@ -84,17 +84,13 @@ impl<W: Write> StdSink<W> {
 impl<W: Write> Sink for StdSink<W> {
     ghost use Rattle.orb_io.specs.Adapters.{writer_of, write_faults};
 
-    ghost put = { λ _. None };
-
-    ghost size = { λ _. None };
+    ghost told = { λ _. untold };
 
     ghost faults = { λ s. write_faults s };
 
     ghost kept = { λ _ _. Unit {0} };
 
-    ghost number = { λ _. tt };
-
-    ghost number_fits = { λ _. tt };
+    ghost told_agrees = { λ _. record { number = tt; fits = tt } };
 
     ghost kept_reflexive = { λ _. tt };
 
@@ -103,7 +99,7 @@ impl<W: Write> Sink for StdSink<W> {
     /// Writes the whole piece and flushes. Each error is a fault, an interrupted write too, and so
     /// is a write that takes nothing of what is left.
     fn push(&mut self, piece: &[u8]) -> Result<(), Failed>
-        ensures bytes { Pushes None None None None result piece.now }
+        ensures bytes { Pushes result untold untold piece.now }
         ensures cause { HasCause (write_faults self.old) (write_faults self.new) result }
         ensures counts { CountsFault (write_faults self.old) (write_faults self.new) result }
         ensures writes { PushAppends (W.contents (writer_of self.old))

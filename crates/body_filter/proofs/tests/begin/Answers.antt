@@ -1,11 +1,8 @@
-use Rattle.std.proofs.Common.{[], ◌++◌}
-use Rattle.std.proofs.lemmas.Result.{on_ok_weaker}
+use Rattle.std.proofs.Common.{[]}
+use Rattle.orb_io.proofs.GivesLemmas.{Delivers-on_ok}
 use Rattle.body_filter.proofs.tests.begin.Goals as goal
 
 pub returns-clause-can : goal.returns-clause-can
 returns-clause-can c =
-    on_ok_weaker c.begin.result
-    (λ feeds.
-    let fed = feeds c.requires.h c.requires.reads in
-    record { x = _; m = []; given = [] ++ fed.more; reads = fed.reads })
-    c.begin.ensures.feeds
+    Delivers-on_ok _ _ c.begin.result _ _ _ _ (c.begin.ensures.delivers c.requires.h c.requires.reads)
+    (λ reads. record { x = _; m = []; reads = reads })

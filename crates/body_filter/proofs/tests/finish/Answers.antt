@@ -7,7 +7,6 @@ end-requires c =
     record {
       x = can.x;
       m = can.m;
-      given = can.given;
       reads = can.reads;
-      decided = ap is_some (sym (c.in-Some.ensures can.x can.m can.given can.reads));
+      decided = ap is_some (sym (c.in-Some.ensures can.x can.m can.reads));
     }

@@ -6,8 +6,7 @@ abbrev pub invariant-batches : goal.invariant-batches
 invariant-batches g l = record {
   short : length l.rest.items < 1024;
   idle : l.text.items ≡ [];
-  cut : Cut (g.O.Sink.put l.initial.sink) (g.O.Sink.put l.sink) (g.O.Sink.size l.initial.sink) (g.O.Sink.size l.sink)
-      l.initial.rest.items l.piece l.left l.rest.items;
+  cut : Cut (g.O.Sink.told l.initial.sink) (g.O.Sink.told l.sink) l.initial.rest.items l.piece l.left l.rest.items;
   calm : g.O.Sink.faults l.sink ≡ g.O.Sink.faults l.initial.sink;
   kept : g.O.Sink.kept l.initial.sink l.sink;
 }

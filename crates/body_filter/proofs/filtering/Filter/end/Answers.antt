@@ -1,22 +1,25 @@
 use Rattle.std.proofs.Common.{refl}
-use Rattle.body_filter.specs.Exchanges.{whole_of}
+use Rattle.std.proofs.lemmas.Result.{err_from_is_err_and}
+use Rattle.orb_io.proofs.GivesLemmas.{Gives-of, Delivers-fault}
+use Rattle.body_filter.specs.Exchanges.{front_of, whole_of}
 use Rattle.body_filter.specs.Reads.{held_in}
 use Rattle.body_filter.proofs.OwedLemmas.{ended-is}
-use Rattle.body_filter.proofs.PhaseLemmas.{falls-of, makes-of, err-always}
 use Rattle.body_filter.proofs.filtering.Filter.end.Goals as goal
 
-pub returns-in_err-put-clause-falls : goal.returns-in_err-put-clause-falls
-returns-in_err-put-clause-falls g c =
-    err-always c.from_residual.result (λ x m given r.
-    falls-of _ _ _ _ given _ (whole_of x m) c.in_err-put.ensures.bytes
-    (ended-is c.args.self.now.phase c.args.self.now _ x m given c.finish-verdict.result r.stands r.gave
+pub returns-in_err-put-clause-delivers : goal.returns-in_err-put-clause-delivers
+returns-in_err-put-clause-delivers g c = λ x m r.
+    let err = err_from_is_err_and c.from_residual.result c.from_residual.ensures.1 in
+    rw err.1 (Delivers-fault _ _ (front_of x m) _ (whole_of x m) c.in_err-put.ensures.puts.bytes
+    (ended-is c.args.self.now.phase c.args.self.now _ x m c.finish-verdict.result r.stands
     (c.finish-verdict.ensures x.head m r.decides) refl refl refl))
 
-pub returns-clause-makes : goal.returns-clause-makes
-returns-clause-makes g c = λ x m given r.
-    makes-of _ _ _ _ given _ (whole_of x m) c.in_ok-put.ensures.bytes
-    (ended-is c.args.self.now.phase c.args.self.now _ x m given c.finish-verdict.result r.stands r.gave
-    (c.finish-verdict.ensures x.head m r.decides) refl refl refl)
+pub returns-clause-delivers : goal.returns-clause-delivers
+returns-clause-delivers g c = λ x m r.
+    let verdict = c.finish-verdict.ensures x.head m r.decides in
+    Gives-of _ _ (front_of x m) _ _ c.in_ok-put.ensures.puts.bytes (
+      ended-is c.args.self.now.phase c.args.self.now _ x m c.finish-verdict.result r.stands verdict refl refl refl,
+      verdict,
+    )
 
 pub returns-clause-empty : goal.returns-clause-empty
 unfolding held_in

@@ -10,8 +10,8 @@ unfolding held_in
 returns-in-Holding-clause-value c = rw c.in-Holding.is (c.len.ensures ∙ c.args.self.now.held.ok.0)
 
 pub returns-in-Holding-clause-exact : goal.returns-in-Holding-clause-exact
-returns-in-Holding-clause-exact c = λ x m given r.
-    let s = holds-of c.args.self.now x m given c.in-Holding.is r in
+returns-in-Holding-clause-exact c = λ x m r.
+    let s = holds-of c.args.self.now x m c.in-Holding.is r in
     c.len.ensures ∙ (c.args.self.now.held.ok.0 ∙ (ap length s.held ∙ sym (held-holding x m s.unsent s.hopeful)))
 
 pub returns-in-Sending-clause-value : goal.returns-in-Sending-clause-value
@@ -19,8 +19,8 @@ unfolding held_in
 returns-in-Sending-clause-value c = rw c.in-Sending.is c.kept.ensures.value
 
 pub returns-in-Sending-clause-exact : goal.returns-in-Sending-clause-exact
-returns-in-Sending-clause-exact c = λ x m given r.
-    let s = sends-of c.args.self.now x m given c.in-Sending.is r in
+returns-in-Sending-clause-exact c = λ x m r.
+    let s = sends-of c.args.self.now x m c.in-Sending.is r in
     c.kept.ensures.value ∙ (ap length s.rest ∙ (kept-length x.chunked m ∙ sym (held-sending x m s.sent)))
 
 pub returns-in-Dropping-clause-value : goal.returns-in-Dropping-clause-value
@@ -28,8 +28,8 @@ unfolding held_in
 returns-in-Dropping-clause-value c = elim c.in-Dropping.is [ inl is ↦ rw is refl | inr is ↦ rw is refl ]
 
 pub returns-in-Dropping-clause-exact : goal.returns-in-Dropping-clause-exact
-returns-in-Dropping-clause-exact c = λ x m given r.
+returns-in-Dropping-clause-exact c = λ x m r.
     elim c.in-Dropping.is [
-      | inl is ↦ sym (held-dropping x m (drops-of c.args.self.now x m given is r).over)
-      | inr is ↦ absurd (idle-spent c.args.self.now is x m given r)
+      | inl is ↦ sym (held-dropping x m (drops-of c.args.self.now x m is r).over)
+      | inr is ↦ absurd (idle-spent c.args.self.now is x m r)
     ]

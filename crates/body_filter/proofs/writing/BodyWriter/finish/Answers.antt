@@ -1,11 +1,13 @@
-use Rattle.orb_io.proofs.ToldLemmas.{Gains-none}
+use Rattle.orb_io.proofs.CallLemmas.{Puts-none}
 use Rattle.body_filter.specs.Writes.{end_of}
 use Rattle.body_filter.proofs.writing.BodyWriter.finish.Goals as goal
 
-pub returns-then-self-clause-bytes : goal.returns-then-self-clause-bytes
+pub returns-then-self-clause-puts : goal.returns-then-self-clause-puts
 unfolding end_of
-returns-then-self-clause-bytes g c = rw (c.if-self.true, ← c.as_slice.ensures.value) c.put_end.ensures.bytes
+returns-then-self-clause-puts g c = rw (c.if-self.true, ← c.as_slice.ensures.value) c.put_end.ensures.puts
 
-pub returns-else-self-clause-bytes : goal.returns-else-self-clause-bytes
+pub returns-else-self-clause-puts : goal.returns-else-self-clause-puts
 unfolding end_of
-returns-else-self-clause-bytes g c = rw c.if-self.false (Gains-none _ _ (g.met.O.Sink.number_fits c.args.sink.now))
+returns-else-self-clause-puts g c =
+    rw c.if-self.false (Puts-none g.O.Sink _ _ (g.met.O.Sink.told_agrees c.args.sink.now)
+    (g.met.O.Sink.kept_reflexive c.args.sink.now))

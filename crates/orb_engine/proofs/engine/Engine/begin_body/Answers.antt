@@ -1,5 +1,5 @@
 use Rattle.std.proofs.Common.{refl}
-use Rattle.orb_io.proofs.ToldLemmas.{Gains-none}
+use Rattle.orb_io.proofs.GivesLemmas.{Gives-none}
 use Rattle.orb_engine.proofs.HeadStepLemmas.{response-good, response-bad}
 use Rattle.orb_engine.proofs.engine.Engine.begin_body.Goals as goal
 
@@ -9,17 +9,17 @@ begin_sending-requires-clause-can g c =
       s,
       m,
       given,
-      response-good c.args.asked c.in-Ok.decider c.in-Ok.frame c.args.self.now _ s m given h
+      response-good c.args.asked (c.in-Ok.decider, c.in-Ok.frame) c.args.self.now _ s m given h
           (record { media = refl; place = refl; counts = refl; told = refl; writer = refl }) c.response.ensures.same refl c.in-Ok.ensures.reads,
     )
 
 pub returns-in-Ok-clause-settles : goal.returns-in-Ok-clause-settles
 returns-in-Ok-clause-settles g c = λ s m given h.
-    c.begin_sending.ensures.settles s m given (response-good c.args.asked c.in-Ok.decider c.in-Ok.frame c.args.self.now _ s m given h
+    c.begin_sending.ensures.settles s m given (response-good c.args.asked (c.in-Ok.decider, c.in-Ok.frame) c.args.self.now _ s m given h
     (record { media = refl; place = refl; counts = refl; told = refl; writer = refl }) c.response.ensures.same refl c.in-Ok.ensures.reads)
 
 pub returns-in-Err-clause-settles : goal.returns-in-Err-clause-settles
 returns-in-Err-clause-settles g c = λ s m given h.
-    response-bad c.args.asked c.args.self.now _ s _ _ m given c.in-Err.kind h
-    (record { media = refl; place = refl; counts = refl; told = refl; writer = refl }) c.in-Err.ensures.reads
-    (Gains-none _ _ (g.met.O.Sink.number_fits c.args.output.now))
+    Gives-none _ given _ (g.met.O.Sink.told_agrees c.args.output.now)
+    (response-bad c.args.asked c.args.self.now _ s m given c.in-Err.kind h
+    (record { media = refl; place = refl; counts = refl; told = refl; writer = refl }) c.in-Err.ensures.reads)

@@ -1,7 +1,7 @@
-use Rattle.std.proofs.Common.{◌≡◌, [], length, eqb, Ok, Err, sym, ap, ◌∙◌}
+use Rattle.std.proofs.Common.{◌≡◌, [], ◌++◌, length, eqb, Ok, Err, sym, ap, ◌∙◌}
 use Rattle.std.proofs.lemmas.Bool.{eqb-true, false≢true}
 use Rattle.std.proofs.lemmas.List.{nil_from_length}
-use Rattle.orb_io.proofs.ToldLemmas.{Gains-none}
+use Rattle.orb_io.proofs.GivesLemmas.{Gives-none, Gives-weaker}
 use Rattle.orb_engine.proofs.HeadStepLemmas.{open-request, open-response}
 use Rattle.orb_engine.proofs.BodyStepLemmas.{open-body}
 use Rattle.orb_engine.proofs.FinishLemmas.{asking-done, asking-cut, answering-cut, sending-cut, closing, closing-few, ended-body}
@@ -10,14 +10,14 @@ use Rattle.orb_engine.proofs.engine.Engine.finish.Goals as goal
 pub returns-then-not-incoming-clause-halts : goal.returns-then-not-incoming-clause-halts
 returns-then-not-incoming-clause-halts g c = λ s m given r.
     let h = open-body c.in-Sending.incoming c.args.self.now s m given r c.in-Sending.is in
-    sending-cut c.in-Sending.incoming c.args.self.now s _ _ m given h c.if-not-incoming.true
-    (Gains-none _ _ (g.met.O.Sink.number_fits c.args.output.now))
+    Gives-none _ given _ (g.met.O.Sink.told_agrees c.args.output.now)
+    (sending-cut c.in-Sending.incoming c.args.self.now s m given h c.if-not-incoming.true)
 
 pub close-requires-clause-can : goal.close-requires-clause-can
 close-requires-clause-can g c =
     let (s, m, given, r) = c.requires.can in
     let h = open-body c.in-Sending.incoming c.args.self.now s m given r c.in-Sending.is in
-    (s, h.items, h.heads, h.body, given, closing c.in-Sending.incoming c.args.self.now s m given h)
+    (s, h.coming, given, closing c.in-Sending.incoming c.args.self.now s m given h)
 
 pub close-requires-clause-few : goal.close-requires-clause-few
 close-requires-clause-few g c =
@@ -27,29 +27,31 @@ close-requires-clause-few g c =
 pub returns-then-is_empty-clause-halts : goal.returns-then-is_empty-clause-halts
 returns-then-is_empty-clause-halts g c = λ s m given r.
     let empty : c.as_slice.result.now ≡ [] = nil_from_length _ (eqb-true _ _ (sym c.is_empty.ensures ∙ c.if-is_empty.true)) in
-    asking-done c.args.self.now s _ _ m given (open-request c.args.self.now s m given r c.in-Asking.is) (sym c.as_slice.ensures.value ∙ empty)
-    (Gains-none _ _ (g.met.O.Sink.number_fits c.args.output.now))
+    Gives-none _ given _ (g.met.O.Sink.told_agrees c.args.output.now)
+    (asking-done c.args.self.now s m given (open-request c.args.self.now s m given r c.in-Asking.is) (sym c.as_slice.ensures.value ∙ empty))
 
 pub returns-else-is_empty-clause-halts : goal.returns-else-is_empty-clause-halts
 returns-else-is_empty-clause-halts g c = λ s m given r.
-    asking-cut c.args.self.now s _ _ m given (open-request c.args.self.now s m given r c.in-Asking.is)
-    (λ empty. false≢true (sym c.if-is_empty.false ∙ c.is_empty.ensures ∙ ap (λ x. eqb (length x) 0) (c.as_slice.ensures.value ∙ empty)))
-    (Gains-none _ _ (g.met.O.Sink.number_fits c.args.output.now))
+    Gives-none _ given _ (g.met.O.Sink.told_agrees c.args.output.now)
+    (asking-cut c.args.self.now s m given (open-request c.args.self.now s m given r c.in-Asking.is)
+    (λ empty. false≢true (sym c.if-is_empty.false ∙ c.is_empty.ensures ∙ ap (λ x. eqb (length x) 0) (c.as_slice.ensures.value ∙ empty))))
 
 pub returns-in-Answering-clause-halts : goal.returns-in-Answering-clause-halts
 returns-in-Answering-clause-halts g c = λ s m given r.
-    answering-cut c.in-Answering.field-0 c.args.self.now s _ _ m given
-    (open-response c.in-Answering.field-0 c.args.self.now s m given r c.in-Answering.is)
-    (Gains-none _ _ (g.met.O.Sink.number_fits c.args.output.now))
+    Gives-none _ given _ (g.met.O.Sink.told_agrees c.args.output.now)
+    (answering-cut c.in-Answering.field-0 c.args.self.now s m given
+    (open-response c.in-Answering.field-0 c.args.self.now s m given r c.in-Answering.is))
 
 pub returns-in-Ok-clause-halts : goal.returns-in-Ok-clause-halts
 returns-in-Ok-clause-halts g c = λ s m given r.
     let h = open-body c.in-Sending.incoming c.args.self.now s m given r c.in-Sending.is in
-    ended-body (Ok tt) c.in-Sending.incoming c.args.self.now c.close.new.self s _ _ _ _ m given h c.if-not-incoming.false
-    (c.in-Ok.ensures.closes s h.items h.heads h.body given (closing c.in-Sending.incoming c.args.self.now s m given h))
+    Gives-weaker _ _ given _ _ (λ more closed.
+    ended-body (Ok tt) c.in-Sending.incoming c.args.self.now c.close.new.self s m given (given ++ more) h c.if-not-incoming.false closed)
+    (c.in-Ok.ensures.closes s h.coming given (closing c.in-Sending.incoming c.args.self.now s m given h))
 
 pub returns-in-Err-clause-halts : goal.returns-in-Err-clause-halts
 returns-in-Err-clause-halts g c = λ s m given r.
     let h = open-body c.in-Sending.incoming c.args.self.now s m given r c.in-Sending.is in
-    ended-body (Err c.in-Err.stop) c.in-Sending.incoming c.args.self.now c.close.new.self s _ _ _ _ m given h c.if-not-incoming.false
-    (c.in-Err.ensures.closes s h.items h.heads h.body given (closing c.in-Sending.incoming c.args.self.now s m given h))
+    Gives-weaker _ _ given _ _ (λ more closed.
+    ended-body (Err c.in-Err.stop) c.in-Sending.incoming c.args.self.now c.close.new.self s m given (given ++ more) h c.if-not-incoming.false closed)
+    (c.in-Err.ensures.closes s h.coming given (closing c.in-Sending.incoming c.args.self.now s m given h))

@@ -1,12 +1,15 @@
-use Rattle.std.proofs.Common.{refl}
-use Rattle.orb_engine.proofs.FlushLemmas.{goes-flushed, goes-broken}
+use Rattle.std.proofs.Common.{◌++◌, refl}
+use Rattle.orb_io.proofs.GivesLemmas.{Gives-weaker}
+use Rattle.orb_engine.proofs.FlushLemmas.{reads-flushed, reads-broken}
 use Rattle.orb_engine.proofs.engine.Engine.flush_open.Goals as goal
 
 pub returns-in-Ok-clause-answers : goal.returns-in-Ok-clause-answers
-returns-in-Ok-clause-answers g c = λ s m given put size goes few.
-    goes-flushed c.args.self.now _ s put _ _ size _ _ m given goes few refl refl c.flush.ensures.same refl refl refl refl refl
-    c.in-Ok.ensures.passes
+returns-in-Ok-clause-answers g c = λ s m given r few.
+    Gives-weaker _ _ given _ _ (λ more flushed.
+    reads-flushed c.args.self.now _ s m given (given ++ more) r few refl refl c.flush.ensures.same refl refl refl refl refl flushed.0 flushed.1)
+    (c.in-Ok.ensures.delivers given)
 
 pub returns-in-Err-clause-answers : goal.returns-in-Err-clause-answers
-returns-in-Err-clause-answers g c = λ s m given put size goes few.
-    goes-broken c.args.self.now _ s put _ _ size _ _ m given goes refl c.in-Err.ensures.passes
+returns-in-Err-clause-answers g c = λ s m given r few.
+    Gives-weaker _ _ given _ _ (λ more within. reads-broken c.args.self.now _ s m given more r refl within)
+    (c.in-Err.ensures.delivers given)

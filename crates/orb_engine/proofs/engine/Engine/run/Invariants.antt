@@ -1,12 +1,13 @@
-use Rattle.std.proofs.Common.{◌≡◌, ◌-◌, ◌≤◌, ◌^◌, length}
+use Rattle.std.proofs.Common.{◌≡◌, ◌-◌, ◌≤◌, ◌^◌, [], length}
+use Rattle.orb_io.specs.Told.{Gives}
 use Rattle.orb_engine.specs.Runs.{settings_of, taken_by}
 use Rattle.orb_engine.specs.Turns.{Running}
 use Rattle.orb_engine.proofs.engine.Engine.run.Given as goal
 
 abbrev pub invariant-pulls : goal.invariant-pulls
 invariant-pulls g l = record {
-  runs : Running l.self (settings_of l.fn.self) (g.I.Source.left l.fn.input) (g.I.Source.left l.input)
-      (g.O.Sink.put l.fn.output) (g.O.Sink.put l.output) (g.O.Sink.size l.fn.output) (g.O.Sink.size l.output);
+  runs : Gives (g.O.Sink.told l.fn.output) (g.O.Sink.told l.output) []
+      (Running l.self (settings_of l.fn.self) (g.I.Source.left l.fn.input) (g.I.Source.left l.input));
   settings : settings_of l.self ≡ settings_of l.fn.self;
   source : g.I.Source.faults l.input ≡ g.I.Source.faults l.fn.input;
   sink : g.O.Sink.faults l.output ≡ g.O.Sink.faults l.fn.output;

@@ -1,19 +1,20 @@
 use Rattle.std.proofs.Common.{◌≡◌, ◌+◌, ◌++◌, ℕ, List, length}
+use Rattle.orb_io.specs.Told.{Gives}
 use Rattle.orb_engine.specs.declared.settings.Settings.{Settings}
-use Rattle.orb_engine.specs.Reads.{Reads, Goes}
+use Rattle.orb_engine.specs.Reads.{Reads}
 use Rattle.orb_engine.proofs.engine.Engine.take_all.Given as goal
 
--- what was taken so far is a front of the piece
+-- what was taken so far is a prefix of the piece
 abbrev pub invariant-steps : goal.invariant-steps
 invariant-steps g l = record {
-  front : List ℕ;
-  cut : l.piece ≡ front ++ l.rest;
+  prefix : List ℕ;
+  cut : l.piece ≡ prefix ++ l.rest;
   can : (s : Settings) × (m : List ℕ) × (given : List ℕ) × Reads l.self s m given;
   goes : (s : Settings) (m given : List ℕ) → Reads l.initial.self s m given
-      → Goes l.self s (g.O.Sink.put l.initial.output) (g.O.Sink.put l.output) (g.O.Sink.size l.initial.output) (g.O.Sink.size l.output) (m ++ front) given;
+      → Gives (g.O.Sink.told l.initial.output) (g.O.Sink.told l.output) given (Reads l.self s (m ++ prefix));
   calm : g.O.Sink.faults l.output ≡ g.O.Sink.faults l.initial.output;
   keeps : g.O.Sink.kept l.initial.output l.output;
-  taken : l.self.taken ≡ l.initial.self.taken + length front;
+  taken : l.self.taken ≡ l.initial.self.taken + length prefix;
   settings : l.self.writer.settings ≡ l.initial.self.writer.settings;
 }
 

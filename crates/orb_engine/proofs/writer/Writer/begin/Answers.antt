@@ -1,12 +1,15 @@
-use Rattle.std.proofs.Common.{[], length, refl, sym, ap, subst, ◌∙◌}
-use Rattle.orb_io.proofs.ToldLemmas.{Gains-none}
+use Rattle.std.proofs.Common.{[], ◌++◌, length, refl, sym, ap, subst, ◌∙◌}
+use Rattle.std.proofs.lemmas.List.{append-nil}
+use Rattle.orb_io.proofs.ToldLemmas.{IsPrefix-none}
+use Rattle.orb_io.proofs.GivesLemmas.{Gives-none, Gives-weaker, Gives-then}
 use Rattle.body_filter.specs.Exchanges.{exchange_of}
 use Rattle.orb_engine.specs.declared.worker.Worker.{Worker}
+use Rattle.orb_engine.specs.Boxes.{BoxState}
 use Rattle.orb_engine.specs.Outputs.{written_front}
 use Rattle.orb_engine.specs.Workers.{IsWorkerFor}
-use Rattle.orb_engine.specs.Writing.{box_of}
+use Rattle.orb_engine.specs.Writing.{box_of, gathered_by}
 use Rattle.orb_engine.proofs.WorkLemmas.{front-none}
-use Rattle.orb_engine.proofs.GatherLemmas.{boxed-ok, boxed-err, direct, flush-broken}
+use Rattle.orb_engine.proofs.GatherLemmas.{boxed, boxed-err, direct, flush-broken}
 use Rattle.orb_engine.proofs.writer.Writer.begin.Goals as goal
 
 pub unreachable-requires : goal.unreachable-requires
@@ -14,34 +17,43 @@ unreachable-requires g c =
     let (s, h, is_for, new) = c.requires.made in
     let x = exchange_of h c.args.head.now c.args.chunked in
     boxed-err (box_of c.args.self.now) c.begin.new.sink [] (written_front s.job x []) (length c.args.head.now)
-    (c.in-Err.ensures.puts s h is_for.worker new) c.in-Err.ensures.keeps c.in-Err.ensures.cause is_for.calm
+    (c.in-Err.ensures.delivers s h is_for.worker new) c.in-Err.ensures.calls.keeps c.in-Err.ensures.calls.cause is_for.calm
     (c.has_room.ensures.0 c.if-has_room.true) (front-none s.job x)
 
 pub returns-in-Ok-clause-passes : goal.returns-in-Ok-clause-passes
-returns-in-Ok-clause-passes g c = λ s h is_for new.
+returns-in-Ok-clause-passes g c = λ s h given is_for new.
     let x = exchange_of h c.args.head.now c.args.chunked in
-    let (made, works) = c.in-Ok.ensures.puts s h is_for.worker new in
-    boxed-ok _ (box_of c.args.self.now) c.begin.new.sink _ _ [] (written_front s.job x []) made c.in-Ok.ensures.cause is_for.calm
-    (Gains-none _ _ (g.met.O.Sink.number_fits c.args.output.now)) (record {
-      works = works;
-      calm = c.in-Ok.ensures.cause ∙ is_for.calm;
-      head = refl;
-      body = refl;
-    })
+    let box = gathered_by c.args.self.now in
+    let put = c.in-Ok.ensures.delivers s h is_for.worker new in
+    Gives-none _ given _ (g.met.O.Sink.told_agrees c.args.output.now) (
+      boxed given box _ (given ++ box) [] (written_front s.job x []) put.more (sym (append-nil (given ++ box))) put.gained.bytes put.holds.0,
+      record {
+        works = put.holds.1;
+        calm = c.in-Ok.ensures.calls.cause ∙ is_for.calm;
+        head = refl;
+        body = refl;
+      },
+    )
 
 pub returns-in-Ok-flush-clause-passes : goal.returns-in-Ok-flush-clause-passes
-returns-in-Ok-flush-clause-passes g c = λ s h is_for new.
+returns-in-Ok-flush-clause-passes g c = λ s h given is_for new.
     let x = exchange_of h c.args.head.now c.args.chunked in
+    let box = gathered_by c.args.self.now in
     let same = c.flush.ensures.same in
     let worker_for = subst (λ (w : Worker). IsWorkerFor w s) (sym same.worker) is_for.worker in
+    Gives-then _ _ _ given _ _ (c.in-Ok-flush.ensures.delivers given) (λ more flushed.
     direct _ _ (λ _ works. record {
       works = works;
-      calm = ap (λ b. b.faults) (c.in-Ok-flush.ensures.passes.3);
+      calm = ap (λ (b : BoxState). b.faults) flushed.1;
       head = same.head;
       body = same.body;
-    }) c.begin-in-Ok-flush.result (box_of c.args.self.now) c.flush.new.self.outbox c.flush.new.self.outbox _ _ _ _ _ _ []
-    (written_front s.job x []) c.in-Ok-flush.ensures.passes (c.begin-in-Ok-flush.ensures.puts s h worker_for new) refl
+    }) c.begin-in-Ok-flush.result _ _ _ (given ++ more) (given ++ box) [] (written_front s.job x [])
+    (flushed.0 ∙ sym (append-nil (given ++ box))) (ap (λ (b : BoxState). b.bytes) flushed.1)
+    (c.begin-in-Ok-flush.ensures.delivers s h worker_for new))
 
 pub returns-in-Err-flush-clause-passes : goal.returns-in-Err-flush-clause-passes
-returns-in-Err-flush-clause-passes g c = λ s h is_for new.
-    flush-broken (box_of c.args.self.now) _ _ _ _ [] _ c.in-Err-flush.ensures.passes
+returns-in-Err-flush-clause-passes g c = λ s h given is_for new.
+    let box = gathered_by c.args.self.now in
+    Gives-weaker _ _ given _ _ (λ more within.
+    flush-broken given box (given ++ box) [] _ (given ++ more) (sym (append-nil (given ++ box))) (IsPrefix-none _) within)
+    (c.in-Err-flush.ensures.delivers given)

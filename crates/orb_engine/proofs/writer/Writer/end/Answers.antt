@@ -1,11 +1,13 @@
-use Rattle.std.proofs.Common.{refl, sym, ap, subst, ◌∙◌, arith}
-use Rattle.orb_io.proofs.ToldLemmas.{Gains-none}
+use Rattle.std.proofs.Common.{◌++◌, refl, sym, ap, subst, ◌∙◌, arith}
+use Rattle.orb_io.proofs.GivesLemmas.{Gives-none, Gives-weaker, Gives-then}
 use Rattle.orb_engine.specs.declared.worker.Worker.{Worker}
+use Rattle.orb_engine.specs.Boxes.{BoxState}
 use Rattle.orb_engine.specs.Outputs.{written_front, written_whole}
 use Rattle.orb_engine.specs.Workers.{Works}
-use Rattle.orb_engine.specs.Writing.{box_of}
+use Rattle.orb_engine.specs.Writing.{box_of, gathered_by}
+use Rattle.orb_engine.proofs.ClosingLemmas.{front-in-whole}
 use Rattle.orb_engine.proofs.WorkLemmas.{whole-most}
-use Rattle.orb_engine.proofs.GatherLemmas.{boxed-ok, boxed-err, direct, flush-broken}
+use Rattle.orb_engine.proofs.GatherLemmas.{boxed, boxed-err, direct, flush-broken}
 use Rattle.orb_engine.proofs.writer.Writer.end.Goals as goal
 
 pub unreachable-requires : goal.unreachable-requires
@@ -15,35 +17,42 @@ unreachable-requires g c =
     let s = c.requires.s in
     let reads = c.requires.reads in
     boxed-err (box_of c.args.self.now) c.end.new.sink (written_front s.job x m) (written_whole s.job c.args.number x m) c.most.result
-    (c.in-Err.ensures.puts s x m reads.works reads.body) c.in-Err.ensures.keeps c.in-Err.ensures.cause reads.calm
+    (c.in-Err.ensures.delivers s x m reads.works reads.body) c.in-Err.ensures.calls.keeps c.in-Err.ensures.calls.cause reads.calm
     (c.has_room.ensures.0 c.if-has_room.true)
     (omega (arith, whole-most s c.args.number x m c.ranges.number.fits (omega (arith, reads.body, c.args.self.now.few)), c.most.ensures, reads.head, reads.body))
 
 pub returns-in-Ok-clause-passes : goal.returns-in-Ok-clause-passes
-returns-in-Ok-clause-passes g c = λ s x m reads.
-    let (made, verdict) = c.in-Ok.ensures.puts s x m reads.works reads.body in
-    boxed-ok _ (box_of c.args.self.now) c.end.new.sink _ _ (written_front s.job x m) (written_whole s.job c.args.number x m) made c.in-Ok.ensures.cause reads.calm
-    (Gains-none _ _ (g.met.O.Sink.number_fits c.args.output.now)) (
-      verdict,
-      record {
-        worker = c.in-Ok.ensures.worker s reads.works.is_for;
-        calm = c.in-Ok.ensures.cause ∙ reads.calm;
-      },
+returns-in-Ok-clause-passes g c = λ s x m given before reads gave.
+    let put = c.in-Ok.ensures.delivers s x m reads.works reads.body in
+    Gives-none _ given _ (g.met.O.Sink.told_agrees c.args.output.now) (
+      boxed given (gathered_by c.args.self.now) _ before (written_front s.job x m) _ put.more gave put.gained.bytes put.holds.0,
+      (
+        put.holds.1,
+        record {
+          worker = c.in-Ok.ensures.worker s reads.works.is_for;
+          calm = c.in-Ok.ensures.calls.cause ∙ reads.calm;
+        },
+      ),
     )
 
 pub returns-in-Ok-flush-clause-passes : goal.returns-in-Ok-flush-clause-passes
-returns-in-Ok-flush-clause-passes g c = λ s x m reads.
+returns-in-Ok-flush-clause-passes g c = λ s x m given before reads gave.
     let same = c.flush.ensures.same in
     let works = subst (λ (w : Worker). Works w s x m) (sym same.worker) reads.works in
+    Gives-then _ _ _ given _ _ (c.in-Ok-flush.ensures.delivers given) (λ more flushed.
     direct _ _ (λ _ verdict. (
       verdict,
       record {
         worker = c.end-in-Ok-flush.ensures.worker s works.is_for;
-        calm = ap (λ b. b.faults) (c.in-Ok-flush.ensures.passes.3);
+        calm = ap (λ (b : BoxState). b.faults) flushed.1;
       },
-    )) c.end-in-Ok-flush.result (box_of c.args.self.now) c.flush.new.self.outbox c.flush.new.self.outbox _ _ _ _ _ _ (written_front s.job x m)
-    (written_whole s.job c.args.number x m) c.in-Ok-flush.ensures.passes (c.end-in-Ok-flush.ensures.puts s x m works (same.body ∙ reads.body)) refl
+    )) c.end-in-Ok-flush.result _ _ _ (given ++ more) before (written_front s.job x m) (written_whole s.job c.args.number x m)
+    (flushed.0 ∙ gave) (ap (λ (b : BoxState). b.bytes) flushed.1)
+    (c.end-in-Ok-flush.ensures.delivers s x m works (same.body ∙ reads.body)))
 
 pub returns-in-Err-flush-clause-passes : goal.returns-in-Err-flush-clause-passes
-returns-in-Err-flush-clause-passes g c = λ s x m reads.
-    flush-broken (box_of c.args.self.now) _ _ _ _ (written_front s.job x m) _ c.in-Err-flush.ensures.passes
+returns-in-Err-flush-clause-passes g c = λ s x m given before reads gave.
+    Gives-weaker _ _ given _ _ (λ more within.
+    flush-broken given (gathered_by c.args.self.now) before (written_front s.job x m) _ (given ++ more) gave
+    (front-in-whole s.job c.args.number x m) within)
+    (c.in-Err-flush.ensures.delivers given)
