@@ -13,7 +13,7 @@ use Rattle.body_filter.specs.Chunks.{chunk_size, crlf, chunk, full_chunks, count
 use Rattle.body_filter.specs.Writes.{put_of, end_of}
 use Rattle.body_filter.specs.Reply.{reply_of}
 use Rattle.body_filter.specs.Exchanges.{Exchange, front_of, whole_of, decided, decided_by}
-use Rattle.body_filter.proofs.DigitLemmas.{three_at_most}
+use Rattle.orb_bytes.proofs.HexadecimalLemmas.{three_at_most}
 use Rattle.body_filter.proofs.ReplyLemmas.{reply-short}
 use Rattle.body_filter.proofs.ChunkLemmas.{full_fits, rest-length, rest-short}
 use Rattle.body_filter.proofs.WriteLemmas.{front-on, whole-is}

@@ -1,6 +1,5 @@
 pub mod ChunkLemmas
 pub mod CutLemmas
-pub mod DigitLemmas
 pub mod WriteLemmas
 pub mod ReplyLemmas
 pub mod FilterLemmas

@@ -11,7 +11,6 @@
 #[cfg(test)]
 mod examples;
 mod filtering;
-mod hexadecimal;
 mod judging;
 mod laws;
 mod phases;

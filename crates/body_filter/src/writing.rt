@@ -4,10 +4,9 @@ ghost use Rattle.orb_io.specs.Calls.{Puts};
 ghost use Rattle.body_filter.specs.Chunks.{chunk, full_chunks, count_full, rest_of, rest_chunk, last_chunk};
 ghost use Rattle.body_filter.specs.Writes.{put_of, kept_behind, end_of, Gathers};
 
-use crate::hexadecimal::hexadecimal;
 use crate::pushing::{WriteFault, put_bytes};
 use arrayvec::ArrayVec;
-use orb_bytes::extend;
+use orb_bytes::{extend, hexadecimal};
 use orb_io::Sink;
 
 /// How many bytes a chunk has, but for the one of the rest.

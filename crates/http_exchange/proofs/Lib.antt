@@ -6,3 +6,4 @@ pub mod ChunkedLemmas
 pub mod PieceLemmas
 pub mod UnframerLemmas
 pub mod HeadSpans
+pub mod GatherLemmas

@@ -12,3 +12,5 @@ pub mod Spans
 pub mod RequestFields
 pub mod ResponseFields
 pub mod Reading
+pub mod HeadTexts
+pub mod Gathering

@@ -5,12 +5,15 @@
 //! [`read_request`] and [`read_response`], is said by its fields alone: `specs/RequestFields` and
 //! `specs/ResponseFields`.
 //!
+//! A [`HeadReader`] gathers a head from pieces up to its limit (`specs/Gathering`).
+//!
 //! `specs/Frames` says which bytes are a body, and which of them are content; of chunked bodies
 //! `specs/Chunked` has the grammar. An [`Unframer`] reads a body in pieces, cut anywhere.
 #![tactic(auto)]
 
 mod ends;
 mod frames;
+mod gathering;
 mod pieces;
 mod places;
 mod refusals;
@@ -25,6 +28,7 @@ mod values;
 
 pub use ends::head_end;
 pub use frames::BodyFrame;
+pub use gathering::{HeadReader, HeadTaken};
 pub use pieces::Taken;
 pub use refusals::BadKind;
 pub use request::{RequestHead, read_request};

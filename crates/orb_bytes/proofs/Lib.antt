@@ -1,2 +1,3 @@
 pub mod TrimLemmas
 pub mod DecimalLemmas
+pub mod HexadecimalLemmas

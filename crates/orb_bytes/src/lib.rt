@@ -7,14 +7,18 @@
 
 mod appending;
 mod classes;
+mod hex_digits;
 mod letters;
 mod numbers;
+mod slices;
 mod trimming;
 
 pub use appending::{append, extend};
 pub use classes::{
     is_http_ws, is_quoted_token, is_space_byte, is_tab_or_space, is_tag_end, is_token,
 };
+pub use hex_digits::hexadecimal;
 pub use letters::{eq_ignore_case, lower};
 pub use numbers::{decimal, read_decimal};
+pub use slices::{first_bytes, last_bytes};
 pub use trimming::{trim_http_ws, trim_http_ws_end, trim_http_ws_start, trim_tab_or_space};

@@ -17,7 +17,7 @@ use Rattle.orb_engine.specs.declared.engine.Stage.{Stage}
 use Rattle.orb_engine.specs.declared.engine.Stage.TheVariants as stage
 use Rattle.orb_engine.specs.declared.outcome.EngineOutcome.{EngineOutcome}
 use Rattle.orb_engine.specs.declared.outcome.EngineOutcome.TheVariants as outcome
-use Rattle.orb_engine.specs.Texts.{head_limit, IsOpenHead}
+use Rattle.http_exchange.specs.HeadTexts.{head_limit, IsOpenHead}
 use Rattle.orb_engine.specs.Heads.{Heads, exchange_of, judged_by}
 use Rattle.orb_engine.specs.Recording as cut
 use Rattle.orb_engine.specs.Recording.{Item, Recording, AreItems, IsTail, IsRecording, spell_heads, spell_items}

@@ -19,7 +19,7 @@ use Rattle.orb_engine.specs.Ends as ends
 use Rattle.orb_engine.specs.Ends.{stop_of}
 use Rattle.orb_engine.specs.Outputs.{output_of, written_items, written_front, written_whole}
 use Rattle.orb_engine.specs.Counts.{rules_of, rules_of_items}
-use Rattle.orb_engine.specs.Texts.{IsOpenHead}
+use Rattle.http_exchange.specs.HeadTexts.{IsOpenHead}
 use Rattle.orb_engine.specs.Reads.{open_cut, table_of, counts_of, coming_response, Stops, Halts, HasRequest, HasResponse}
 use Rattle.orb_engine.specs.Closing.{Closes, IsClosing}
 use Rattle.orb_engine.proofs.OutputLaws.{written_front-undecided}

@@ -13,7 +13,7 @@ use Rattle.orb_engine.specs.declared.engine.Stage.{Stage}
 use Rattle.orb_engine.specs.declared.engine.Stage.TheVariants as stage
 use Rattle.orb_engine.specs.declared.outcome.EngineOutcome.{EngineOutcome}
 use Rattle.orb_engine.specs.declared.outcome.EngineOutcome.TheVariants as outcome
-use Rattle.orb_engine.specs.Boxes.{BoxState, empty_box}
+use Rattle.orb_io.specs.Outboxes.{OutboxState, empty_outbox}
 use Rattle.orb_engine.specs.Workers.{IsWorkerFor, Works}
 use Rattle.orb_engine.specs.Heads.{exchange_of}
 use Rattle.orb_engine.specs.Recording as cut
@@ -130,15 +130,15 @@ items-front : (s : Settings) (items : List Item) (t : Tail) → IsPrefix (writte
 unfolding output_of
 items-front s items t = IsPrefix-append _ _
 
-works-same : (w w' : Writer) (s : Settings) → IsSameBut w w' → box_of w' ≡ empty_box → IsWriterFor w s → IsWriterFor w' s
+works-same : (w w' : Writer) (s : Settings) → IsSameBut w w' → box_of w' ≡ empty_outbox → IsWriterFor w s → IsWriterFor w' s
 works-same w w' s same empty for = record {
   worker = subst (λ (v : Worker). IsWorkerFor v s) (sym same.worker) for.worker;
-  calm = ap (λ (b : BoxState). b.faults) empty;
+  calm = ap (λ (b : OutboxState). b.faults) empty;
 }
 
 -- a flush changes nothing of where the engine stands
 pub stands-flushed : (t : Stage) (e e' : Engine) (s : Settings) (items : List Item) (tail : Tail) → Stands t e s items tail
-    → e'.head ≡ e.head → e'.media ≡ e.media → IsSameBut e.writer e'.writer → box_of e'.writer ≡ empty_box
+    → e'.head ≡ e.head → e'.media ≡ e.media → IsSameBut e.writer e'.writer → box_of e'.writer ≡ empty_outbox
     → Stands t e' s items tail
 stands-flushed stage.Idle e e' s items tail h head media same empty = absurd h
 stands-flushed stage.Asking e e' s items tail h head media same empty = record {
@@ -168,7 +168,7 @@ stands-flushed (stage.Sending incoming) e e' s items tail h head media same empt
     unframer = h.receives.unframer;
     writer = record {
       works = subst (λ (v : Worker). Works v s (exchange_of s (table_of items) h.heads) h.body) (sym same.worker) h.receives.writer.works;
-      calm = ap (λ (b : BoxState). b.faults) empty;
+      calm = ap (λ (b : OutboxState). b.faults) empty;
       head = same.head ∙ h.receives.writer.head;
       body = same.body ∙ h.receives.writer.body;
     };
@@ -183,7 +183,7 @@ stands-flushed (stage.Sending incoming) e e' s items tail h head media same empt
 pub reads-flushed : (e e' : Engine) (s : Settings) (m given all : List ℕ) → Reads e s m given → e.taken ≤ 2 ^ 62
     → e'.head ≡ e.head → e'.media ≡ e.media → IsSameBut e.writer e'.writer → e'.stage ≡ e.stage → e'.place ≡ e.place
     → e'.taken ≡ e.taken → e'.counts ≡ e.counts → e'.told ≡ e.counts
-    → all ≡ given ++ gathered_by e.writer → box_of e'.writer ≡ empty_box
+    → all ≡ given ++ gathered_by e.writer → box_of e'.writer ≡ empty_outbox
     → Ends e' s m false (λ stop. stop ≡ Open) all × HasRead e' s m all
 reads-flushed e e' s m given all r few head media same stage_ place taken counts told gave empty =
     let recording = open_cut r.items r.tail in
@@ -201,7 +201,7 @@ reads-flushed e e' s m given all r few head media same stage_ place taken counts
           tail = r.tail;
           cut = r.cut;
           open_ = r.open_;
-          gave = ap (λ (x : BoxState). all ++ x.bytes) empty ∙ append-nil _ ∙ out;
+          gave = ap (λ (x : OutboxState). all ++ x.bytes) empty ∙ append-nil _ ∙ out;
           taken = taken ∙ r.taken;
           common = record {
             settings = same.settings ∙ r.common.settings;

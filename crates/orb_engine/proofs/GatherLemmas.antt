@@ -5,7 +5,7 @@ use Rattle.orb_io.specs.Told.{Told, told_bytes, Gives, Delivers, IsPrefix, Rose}
 use Rattle.orb_io.proofs.ToldLemmas.{IsPrefix-trans, IsPrefix-after}
 use Rattle.body_filter.specs.declared.pushing.WriteFault.{WriteFault}
 use Rattle.orb_engine.specs.declared.writer.Writer.{Writer}
-use Rattle.orb_engine.specs.Boxes.{BoxState, IsBehind, box_room}
+use Rattle.orb_io.specs.Outboxes.{OutboxState, OnlyFills, outbox_room}
 use Rattle.orb_engine.specs.Writing.{Passes, gathered_by}
 
 -- what was put into the box is gathered
@@ -16,9 +16,9 @@ boxed given box box' before start owed more gave grew is =
     ∙ append_assoc before start more ∙ ap (λ t. before ++ t) is
 
 -- a box with room doesn't fail
-pub boxed-err : (b c : BoxState) (start owed : List ℕ) (most : ℕ)
+pub boxed-err : (b c : OutboxState) (start owed : List ℕ) (most : ℕ)
     → Gives (told_bytes b.bytes) (told_bytes c.bytes) start (λ all. IsPrefix all owed)
-    → IsBehind b c → Rose b.faults c.faults → b.faults ≡ 0 → length b.bytes + most < box_room → length owed ≤ most → ⊥
+    → OnlyFills b c → Rose b.faults c.faults → b.faults ≡ 0 → length b.bytes + most < outbox_room → length owed ≤ most → ⊥
 boxed-err b c start owed most gives behind rose calm room fits =
     let size : length c.bytes ≡ length b.bytes + length gives.more =
     ap length gives.gained.bytes ∙ length-append b.bytes gives.more in

@@ -20,7 +20,7 @@ use Rattle.http_exchange.specs.declared.frames.BodyFrame.{BodyFrame}
 use Rattle.http_exchange.specs.declared.refusals.BadKind.{BadKind}
 use Rattle.http_exchange.specs.declared.request.RequestHead.{RequestHead}
 use Rattle.http_exchange.proofs.EndLemmas.{head_length-stays, head_length-alone}
-use Rattle.orb_engine.specs.Texts.{head_limit, IsHeadText, IsOpenHead, IsLongHead}
+use Rattle.http_exchange.specs.HeadTexts.{head_limit, IsHeadText, IsOpenHead, IsLongHead}
 use Rattle.orb_engine.specs.Heads.{Response, IsResponseHead}
 
 pub data HeadView : Type 0 where

@@ -1,4 +1,3 @@
-pub mod HeadLemmas
 pub mod WorkLemmas
 pub mod GatherLemmas
 pub mod CutLemmas

@@ -17,7 +17,7 @@ use Rattle.orb_engine.specs.Recording as cut
 use Rattle.orb_engine.specs.Recording.{Tail, Recording}
 use Rattle.orb_engine.specs.Ends.{Open}
 use Rattle.orb_engine.specs.Counts.{rules_of, rules_of_items, rules_of_tail, count_allowed, count_blocked}
-use Rattle.orb_engine.specs.Boxes.{BoxState}
+use Rattle.orb_io.specs.Outboxes.{OutboxState}
 use Rattle.orb_engine.specs.Reads.{HaltCause, open_cut}
 use Rattle.orb_engine.specs.Runs.{run_limit, HasRead, Ends, EndsAs, FeedAnswers, FeedCauses, RunAnswers, RunCauses, Ran}
 use Rattle.orb_engine.specs.Turns.{piece_of, is_ended, TurnAnswers, TurnCauses, Running}
@@ -43,7 +43,7 @@ read-ends e s m given r =
       recording = cutting;
       cut = r.reads.cut;
       stop = (opens-stop s cutting).1 r.reads.open_;
-      gave = sym (append-nil given) ∙ ap (λ (t : BoxState). given ++ t.bytes) (sym r.flushed) ∙ r.reads.gave;
+      gave = sym (append-nil given) ∙ ap (λ (t : OutboxState). given ++ t.bytes) (sym r.flushed) ∙ r.reads.gave;
       counted = record {
         allowed = ap (λ c. c.allowed) counts;
         blocked = ap (λ c. c.blocked) counts;

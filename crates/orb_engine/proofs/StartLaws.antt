@@ -6,7 +6,7 @@ use Rattle.http_exchange.specs.Reading.{ReadsRequestHead, ReadsResponseHead}
 use Rattle.http_exchange.specs.declared.refusals.BadKind.{BadKind}
 use Rattle.http_exchange.specs.declared.request.RequestHead.{RequestHead}
 use Rattle.orb_engine.specs.declared.settings.Settings.{Settings}
-use Rattle.orb_engine.specs.Texts.{IsOpenHead}
+use Rattle.http_exchange.specs.HeadTexts.{IsOpenHead}
 use Rattle.orb_engine.specs.Heads.{Request, Response, Heads, IsRequestIn, IsRefusedId, IsResponseHead, AreHeads, id_of}
 use Rattle.orb_engine.specs.Recording as cut
 use Rattle.orb_engine.specs.Recording.{Tail, IsTail, spell_heads, spell_tail, is_open}
@@ -46,9 +46,9 @@ IsAnswer to_head l (AnswerBad head kind) =
 IsAnswer to_head l (Answered r rest) = (view l ≡ Stands r.bytes rest) × IsResponseHead to_head r
 
 -- the response is looked at only behind a good request
-abbrev pub IsBehind : Ask → Answer → Type 0
-IsBehind (Asked r rest) answer = IsAnswer r.asks.is_head rest answer
-IsBehind _ answer = answer ≡ NoAnswer
+abbrev pub OnlyFills : Ask → Answer → Type 0
+OnlyFills (Asked r rest) answer = IsAnswer r.asks.is_head rest answer
+OnlyFills _ answer = answer ≡ NoAnswer
 
 -- ---- one request
 
@@ -125,7 +125,7 @@ one_answer to_head l (Answered r rest) (Answered q others) x y =
     let response : r ≡ q = response_once to_head r q same x.1 y.1 in cc
 
 -- behind one request
-one_behind : (ask : Ask) (a b : Answer) → IsBehind ask a → IsBehind ask b → a ≡ b
+one_behind : (ask : Ask) (a b : Answer) → OnlyFills ask a → OnlyFills ask b → a ≡ b
 one_behind AskOpens a b x y = x ∙ sym y
 one_behind AskLong a b x y = x ∙ sym y
 one_behind (AskBad head kind) a b x y = x ∙ sym y
@@ -136,13 +136,13 @@ one_behind (Asked r rest) a b x y = one_answer r.asks.is_head rest a b x y
 
 pub record IsStart (table : States) (l : List ℕ) (ask : Ask) (answer : Answer) : Type 0 where
   pub asks : IsAsk table l ask
-  pub answers : IsBehind ask answer
+  pub answers : OnlyFills ask answer
 
 pub one_start : (table : States) (l : List ℕ) (a b : Ask) (x y : Answer) → IsStart table l a x → IsStart table l b y
     → (a ≡ b) × (x ≡ y)
 one_start table l a b x y p q =
     let asks : a ≡ b = one_ask table l a b p.asks q.asks in
-    (asks, one_behind a x y p.answers (subst (λ k. IsBehind k y) (sym asks) q.answers))
+    (asks, one_behind a x y p.answers (subst (λ k. OnlyFills k y) (sym asks) q.answers))
 
 -- ---- of a tail
 

@@ -17,7 +17,7 @@ use Rattle.http_exchange.specs.declared.request.RequestHead.{RequestHead}
 use Rattle.http_exchange.specs.declared.frames.BodyFrame.{BodyFrame}
 use Rattle.http_exchange.specs.declared.frames.BodyFrame.TheVariants as frame
 use Rattle.orb_engine.specs.declared.settings.Settings.{Settings}
-use Rattle.orb_engine.specs.Texts.{IsHeadText}
+use Rattle.http_exchange.specs.HeadTexts.{IsHeadText}
 
 -- a request head, and what it says of the fetch that made it
 pub record Request : Type 0 where

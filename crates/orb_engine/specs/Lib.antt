@@ -1,15 +1,11 @@
-pub mod Texts
 pub mod Heads
 pub mod Recording
 pub mod Ends
 pub mod Outputs
 pub mod Counts
 pub mod Refusals
-pub mod Gathering
 pub mod HeadReads
 pub mod Media
-pub mod Boxes
-pub mod BoxLaws
 pub mod Workers
 pub mod Writing
 pub mod WorkerLaws

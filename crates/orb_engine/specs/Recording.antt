@@ -13,7 +13,7 @@ use Rattle.http_exchange.specs.Reading.{ReadsRequestHead, ReadsResponseHead}
 use Rattle.http_exchange.specs.declared.refusals.BadKind.{BadKind}
 use Rattle.http_exchange.specs.declared.frames.BodyFrame.TheVariants as frame
 use Rattle.orb_engine.specs.declared.settings.Settings.{Settings}
-use Rattle.orb_engine.specs.Texts.{IsHeadText, IsOpenHead, IsLongHead}
+use Rattle.http_exchange.specs.HeadTexts.{IsHeadText, IsOpenHead, IsLongHead}
 use Rattle.orb_engine.specs.Heads.{Request, Heads, IsRequestHead, IsRequestIn, IsRefusedId, AreHeads, id_of, keeps, state_of, judged_by}
 
 -- a whole exchange

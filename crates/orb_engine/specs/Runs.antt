@@ -10,7 +10,7 @@ use Rattle.orb_engine.specs.Recording.{Item, Recording, IsRecording}
 use Rattle.orb_engine.specs.Ends.{End, Open, stop_of}
 use Rattle.orb_engine.specs.Outputs.{output_of, written_items}
 use Rattle.orb_engine.specs.Counts.{rules_of, rules_of_items, count_allowed, count_blocked}
-use Rattle.orb_engine.specs.Boxes.{empty_box}
+use Rattle.orb_io.specs.Outboxes.{empty_outbox}
 use Rattle.orb_engine.specs.Writing.{box_of}
 use Rattle.orb_engine.specs.Reads.{Reads, IsStop, HaltCause}
 
@@ -33,7 +33,7 @@ blocked_by e = e.counts.blocked
 -- it has read these bytes of a recording, and given these
 pub record HasRead (e : Engine) (s : Settings) (m given : List ℕ) : Type 0 where
   pub reads : Reads e s m given
-  pub flushed : box_of e.writer ≡ empty_box
+  pub flushed : box_of e.writer ≡ empty_outbox
   pub few : e.taken ≤ 2 ^ 62
 
 -- it reads a recording

@@ -5,11 +5,11 @@ use Rattle.response_rules.specs.Tables.{window_rule_of}
 use Rattle.body_filter.specs.Exchanges.{Exchange}
 use Rattle.orb_engine.specs.declared.settings.Settings.{Settings}
 use Rattle.orb_engine.specs.declared.writer.Writer.{Writer}
-use Rattle.orb_engine.specs.Boxes.{BoxState}
+use Rattle.orb_io.specs.Outboxes.{OutboxState}
 use Rattle.orb_engine.specs.Workers.{IsWorkerFor, Works}
 
 -- what a writer has gathered
-abbrev pub box_of : Writer → BoxState
+abbrev pub box_of : Writer → OutboxState
 box_of w = w.outbox
 
 abbrev pub gathered_by : Writer → List ℕ

@@ -6,7 +6,7 @@ ghost use Rattle.orb_engine.specs.Runs.{settings_of, taken_by, allowed_by, block
 
 use crate::counts::Counts;
 use crate::engine::{Engine, Stage};
-use crate::heads::HeadReader;
+use crate::heads::Heads;
 use crate::outcome::EngineOutcome;
 use crate::settings::Settings;
 use crate::writer::Writer;
@@ -26,7 +26,7 @@ impl Engine {
         ensures spent { IfOk result IsSpent }
     {
         let media = MediaTable::open(alloc)?;
-        let head = HeadReader::open(alloc)?;
+        let head = Heads::open(alloc)?;
         let writer = Writer::open(alloc, settings)?;
         Ok(Engine {
             media,

@@ -1,7 +1,7 @@
 //! The engine: a recording, exchange by exchange.
 
 use crate::counts::Counts;
-use crate::heads::HeadReader;
+use crate::heads::Heads;
 use crate::writer::Writer;
 use http_exchange::{RequestHead, Unframer};
 use media_state::{MediaState, MediaTable};
@@ -47,7 +47,7 @@ pub(crate) struct Incoming {
 #[derive(Drop)]
 pub struct Engine {
     pub(crate) media: MediaTable,
-    pub(crate) head: HeadReader,
+    pub(crate) head: Heads,
     pub(crate) writer: Writer,
     pub(crate) stage: Stage,
     // Where the exchange at hand begins, and how many bytes were taken.

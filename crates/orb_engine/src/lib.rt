@@ -16,7 +16,6 @@
 
 mod api;
 mod bodies;
-mod boxes;
 mod closing;
 mod counts;
 mod engine;

@@ -2,13 +2,13 @@
 ghost use Rattle.std.specs.Prelude.{◌≡◌, ◌≤◌, ◌+◌, ◌^◌, ◌++◌, ℕ, List, [], ◌-◌, length, IfOk};
 ghost use Rattle.orb_io.specs.Told.{Gives};
 ghost use Rattle.orb_engine.specs.declared.settings.Settings.{Settings};
-ghost use Rattle.orb_engine.specs.Texts.{IsHeadText};
+ghost use Rattle.http_exchange.specs.HeadTexts.{IsHeadText};
 ghost use Rattle.orb_engine.specs.Reads.{Reads, Steps, Settles, Causes, HasRequest, HasResponse};
 
 use crate::engine::{Asked, Engine, Stage};
-use crate::heads::HeadTaken;
 use crate::media::enter;
 use crate::outcome::EngineOutcome;
+use http_exchange::HeadTaken;
 use orb_io::Sink;
 
 impl Engine {

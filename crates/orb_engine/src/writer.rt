@@ -14,11 +14,10 @@ ghost use Rattle.response_rules.specs.Settled.{is_in_text};
 ghost use Rattle.response_rules.specs.Reads.{IsVerdict};
 ghost use Rattle.body_filter.specs.Exchanges.{Exchange, exchange_of};
 
-use crate::boxes::Outbox;
 use crate::settings::Settings;
 use crate::worker::Worker;
 use body_filter::WriteFault;
-use orb_io::{Failed, NoMemory, Sink, push_nonempty};
+use orb_io::{Failed, NoMemory, Outbox, Sink, push_nonempty};
 use response_rules::{Decider, Rule, Verdict};
 use std::alloc::Global;
 
@@ -42,7 +41,7 @@ pub(crate) struct Writer {
 impl Writer {
     ghost use Rattle.std.specs.Prelude.{IfOk, OnErr};
     ghost use Rattle.orb_engine.specs.declared.settings.Settings.{Settings};
-    ghost use Rattle.orb_engine.specs.Boxes.{empty_box};
+    ghost use Rattle.orb_io.specs.Outboxes.{empty_outbox};
     ghost use Rattle.orb_engine.specs.Outputs.{written_front, written_whole};
     ghost use Rattle.orb_engine.specs.Workers.{IsNewFor};
     ghost use Rattle.orb_engine.specs.Writing.{IsWriterFor, WriterReads, CanGoOn, CanClose, Passes, IsSameBut, box_of, gathered_by, body_of};
@@ -66,7 +65,7 @@ impl Writer {
 
     /// Drops what was gathered.
     pub(crate) fn clear(&mut self)
-        ensures empty { box_of self.new ≡ empty_box }
+        ensures empty { box_of self.new ≡ empty_outbox }
         ensures same { IsSameBut self.old self.new }
     {
         self.outbox.clear();
@@ -75,7 +74,7 @@ impl Writer {
     /// Pushes what was gathered.
     pub(crate) fn flush<O: Sink>(&mut self, output: &mut O) -> Result<(), WriteFault>
         ensures delivers { (given : List ℕ) → Delivers result (O.told output.old) (O.told output.new)
-            given (given ++ gathered_by self.old) (λ _. box_of self.new ≡ empty_box) }
+            given (given ++ gathered_by self.old) (λ _. box_of self.new ≡ empty_outbox) }
         ensures calls { Calls O.Sink result output.old output.new }
         ensures same { IsSameBut self.old self.new }
     {

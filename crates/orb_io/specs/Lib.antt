@@ -4,3 +4,5 @@ pub mod Memory
 pub mod Streams
 pub mod Adapters
 pub mod Calls
+pub mod Outboxes
+pub mod OutboxLaws

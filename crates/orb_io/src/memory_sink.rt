@@ -1,5 +1,5 @@
 //! A sink in memory.
-ghost use Rattle.std.specs.Prelude.{◌≡◌, ◌+◌, ◌-◌, ◌^◌, ◌≤◌, ◌++◌, [], IfOk, length, vec_len, vec_capacity};
+ghost use Rattle.std.specs.Prelude.{◌≡◌, ◌-◌, ◌^◌, [], IfOk, length};
 ghost use Rattle.orb_io.specs.Told.{Pushes, HasCause, told_bytes};
 ghost use Rattle.orb_io.specs.Memory.{PushesInMemory};
 ghost use Rattle.std.proofs.Common.{refl};
@@ -7,6 +7,7 @@ ghost use Rattle.std.proofs.Math.Nat.{min-le_right as min_le_right};
 
 use crate::fault_count::raised;
 use crate::outside::{Failed, NoMemory, Sink};
+use orb_bytes::append;
 use std::alloc::Global;
 use std::marker::Model;
 
@@ -101,18 +102,6 @@ impl Sink for MemorySink {
             return Err(raised(&mut self.faults));
         }
         Ok(())
-    }
-}
-
-/// Appends the text, for which there is room.
-fn append(bytes: &mut Vec<u8>, text: &[u8])
-    requires { vec_len bytes.old + length text.now ≤ vec_capacity bytes.old }
-    ensures items { bytes.new.items ≡ bytes.old.items ++ text.now }
-    ensures capacity { vec_capacity bytes.old ≤ vec_capacity bytes.new }
-{
-    match bytes.extend_from_slice(text) {
-        Ok(()) => {}
-        Err(_) => unreachable!(),
     }
 }
 

@@ -1,7 +1,7 @@
 use Rattle.std.proofs.Common.{◌+◌, ◌++◌, length, take, refl, sym, ap, ◌∙◌, arith}
 use Rattle.std.proofs.lemmas.List.{length-take-le}
 use Rattle.orb_io.proofs.GivesLemmas.{Gives-none, Gives-weaker}
-use Rattle.orb_engine.specs.Texts.{IsHeadText, IsOpenHead}
+use Rattle.http_exchange.specs.HeadTexts.{IsHeadText, IsOpenHead}
 use Rattle.orb_engine.proofs.HeadStepLemmas.{open-response, reads-response, response-longer, response-long, halts-piece, taken-all}
 use Rattle.orb_engine.proofs.engine.Engine.answer.Goals as goal
 

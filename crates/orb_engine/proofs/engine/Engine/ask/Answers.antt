@@ -1,6 +1,6 @@
 use Rattle.std.proofs.Common.{◌+◌, ◌++◌, length, take, refl, sym, ap, subst, ◌∙◌, arith}
 use Rattle.std.proofs.lemmas.List.{length-take-le}
-use Rattle.orb_engine.specs.Texts.{IsHeadText, IsOpenHead}
+use Rattle.http_exchange.specs.HeadTexts.{IsHeadText, IsOpenHead}
 use Rattle.orb_engine.proofs.HeadStepLemmas.{open-request, reads-request, request-longer, request-long, halts-piece, taken-all}
 use Rattle.orb_engine.proofs.engine.Engine.ask.Goals as goal
 

@@ -1,10 +1,10 @@
 use Rattle.std.proofs.Common.{[], refl, arith, sym, ap, subst, lit<}
 use Rattle.http_exchange.specs.Head.{head_length}
 use Rattle.orb_engine.specs.declared.worker.Worker.{Worker}
-use Rattle.orb_engine.specs.Texts.{IsOpenHead, head_limit}
+use Rattle.http_exchange.specs.HeadTexts.{IsOpenHead, head_limit}
 use Rattle.orb_engine.specs.Recording as cut
 use Rattle.orb_engine.specs.Outputs.{output_of}
-use Rattle.orb_engine.specs.Boxes.{BoxState}
+use Rattle.orb_io.specs.Outboxes.{OutboxState}
 use Rattle.orb_engine.specs.Workers.{IsWorkerFor}
 use Rattle.orb_engine.proofs.engine.Engine.start.Goals as goal
 
@@ -24,7 +24,7 @@ returns-clause-reads c =
         tail = cut.Asking [];
         cut = record { spells = refl; items = tt; tail = open-none; last = λ _. refl };
         open_ = refl;
-        gave = ap (λ (b : BoxState). b.bytes) empty;
+        gave = ap (λ (b : OutboxState). b.bytes) empty;
         taken = refl;
         common = record {
           settings = c.clear-3.ensures.same.settings;
@@ -39,7 +39,7 @@ returns-clause-reads c =
           media = c.clear.ensures;
           writer = record {
             worker = subst (λ (w : Worker). IsWorkerFor w s) (sym c.clear-3.ensures.same.worker) c.args.self.now.writer.worker_for;
-            calm = ap (λ (b : BoxState). b.faults) empty;
+            calm = ap (λ (b : OutboxState). b.faults) empty;
           };
         };
       };

@@ -4,7 +4,7 @@ use Rattle.orb_io.proofs.ToldLemmas.{IsPrefix-none}
 use Rattle.orb_io.proofs.GivesLemmas.{Gives-none, Gives-weaker, Gives-then}
 use Rattle.body_filter.specs.Exchanges.{exchange_of}
 use Rattle.orb_engine.specs.declared.worker.Worker.{Worker}
-use Rattle.orb_engine.specs.Boxes.{BoxState}
+use Rattle.orb_io.specs.Outboxes.{OutboxState}
 use Rattle.orb_engine.specs.Outputs.{written_front}
 use Rattle.orb_engine.specs.Workers.{IsWorkerFor}
 use Rattle.orb_engine.specs.Writing.{box_of, gathered_by}
@@ -44,11 +44,11 @@ returns-in-Ok-flush-clause-passes g c = λ s h given is_for new.
     Gives-then _ _ _ given _ _ (c.in-Ok-flush.ensures.delivers given) (λ more flushed.
     direct _ _ (λ _ works. record {
       works = works;
-      calm = ap (λ (b : BoxState). b.faults) flushed.1;
+      calm = ap (λ (b : OutboxState). b.faults) flushed.1;
       head = same.head;
       body = same.body;
     }) c.begin-in-Ok-flush.result _ _ _ (given ++ more) (given ++ box) [] (written_front s.job x [])
-    (flushed.0 ∙ sym (append-nil (given ++ box))) (ap (λ (b : BoxState). b.bytes) flushed.1)
+    (flushed.0 ∙ sym (append-nil (given ++ box))) (ap (λ (b : OutboxState). b.bytes) flushed.1)
     (c.begin-in-Ok-flush.ensures.delivers s h worker_for new))
 
 pub returns-in-Err-flush-clause-passes : goal.returns-in-Err-flush-clause-passes

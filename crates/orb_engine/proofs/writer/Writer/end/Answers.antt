@@ -1,7 +1,7 @@
 use Rattle.std.proofs.Common.{◌++◌, refl, sym, ap, subst, ◌∙◌, arith}
 use Rattle.orb_io.proofs.GivesLemmas.{Gives-none, Gives-weaker, Gives-then}
 use Rattle.orb_engine.specs.declared.worker.Worker.{Worker}
-use Rattle.orb_engine.specs.Boxes.{BoxState}
+use Rattle.orb_io.specs.Outboxes.{OutboxState}
 use Rattle.orb_engine.specs.Outputs.{written_front, written_whole}
 use Rattle.orb_engine.specs.Workers.{Works}
 use Rattle.orb_engine.specs.Writing.{box_of, gathered_by}
@@ -44,10 +44,10 @@ returns-in-Ok-flush-clause-passes g c = λ s x m given before reads gave.
       verdict,
       record {
         worker = c.end-in-Ok-flush.ensures.worker s works.is_for;
-        calm = ap (λ (b : BoxState). b.faults) flushed.1;
+        calm = ap (λ (b : OutboxState). b.faults) flushed.1;
       },
     )) c.end-in-Ok-flush.result _ _ _ (given ++ more) before (written_front s.job x m) (written_whole s.job c.args.number x m)
-    (flushed.0 ∙ gave) (ap (λ (b : BoxState). b.bytes) flushed.1)
+    (flushed.0 ∙ gave) (ap (λ (b : OutboxState). b.bytes) flushed.1)
     (c.end-in-Ok-flush.ensures.delivers s x m works (same.body ∙ reads.body)))
 
 pub returns-in-Err-flush-clause-passes : goal.returns-in-Err-flush-clause-passes

@@ -1,7 +1,7 @@
 use Rattle.std.proofs.Common.{◌++◌, length-append, refl, sym, ap, subst, ◌∙◌, arith}
 use Rattle.orb_io.proofs.GivesLemmas.{Gives-none, Gives-weaker, Gives-then}
 use Rattle.orb_engine.specs.declared.worker.Worker.{Worker}
-use Rattle.orb_engine.specs.Boxes.{BoxState}
+use Rattle.orb_io.specs.Outboxes.{OutboxState}
 use Rattle.orb_engine.specs.Outputs.{written_front}
 use Rattle.orb_engine.specs.Workers.{Works}
 use Rattle.orb_engine.specs.Writing.{box_of, gathered_by}
@@ -41,11 +41,11 @@ returns-in-Ok-flush-clause-passes g c = λ s x m given before reads gave.
     Gives-then _ _ _ given _ _ (c.in-Ok-flush.ensures.delivers given) (λ more flushed.
     direct _ _ (λ _ works. record {
       works = works;
-      calm = ap (λ (b : BoxState). b.faults) flushed.1;
+      calm = ap (λ (b : OutboxState). b.faults) flushed.1;
       head = same.head ∙ reads.head;
       body = omega (arith, same.body, length-append m c.args.body.now, reads.body);
     }) c.feed-in-Ok-flush.result _ _ _ (given ++ more) before (written_front s.job x m) (written_front s.job x (m ++ c.args.body.now))
-    (flushed.0 ∙ gave) (ap (λ (b : BoxState). b.bytes) flushed.1) (c.feed-in-Ok-flush.ensures.delivers s x m works))
+    (flushed.0 ∙ gave) (ap (λ (b : OutboxState). b.bytes) flushed.1) (c.feed-in-Ok-flush.ensures.delivers s x m works))
 
 pub returns-in-Err-flush-clause-passes : goal.returns-in-Err-flush-clause-passes
 returns-in-Err-flush-clause-passes g c = λ s x m given before reads gave.

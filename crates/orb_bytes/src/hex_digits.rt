@@ -1,11 +1,11 @@
-//! The size of a chunk, as it is written (RFC 9112 7.1).
+//! Hexadecimal numbers of at most three digits, as the sizes of chunks are written (RFC 9112 7.1).
 ghost use Rattle.std.specs.Prelude.{◌≡◌, ◌<◌, ◌^◌, false};
 ghost use Rattle.std.specs.Fmt.{digits, digit_glyph};
 
 use arrayvec::ArrayVec;
 
-/// The number in small hexadecimal digits, without leading zeros.
-pub(crate) fn hexadecimal(number: usize) -> ArrayVec<u8, 3>
+/// The number in lowercase hexadecimal digits, without leading zeros.
+pub fn hexadecimal(number: usize) -> ArrayVec<u8, 3>
     requires { number < 16 ^ 3 }
     ensures { result.items ≡ digits 16 false number }
 {

@@ -1,28 +1,28 @@
-//! What one call has to write, gathered so that it goes out in few pushes.
+//! A sink of fixed room, in which what is to go out in one push is gathered.
 ghost use Rattle.std.specs.Prelude.{◌≡◌};
 ghost use Rattle.orb_io.specs.Told.{Pushes, HasCause, told_bytes};
 
-use crate::heads::front_of;
-use orb_bytes::append;
-use orb_io::{Failed, NoMemory, Sink};
+use crate::fault_count::raised;
+use crate::outside::{Failed, NoMemory, Sink};
+use orb_bytes::{append, first_bytes};
 use std::alloc::Global;
 use std::marker::Model;
 
 /// How many bytes are gathered at most.
-pub(crate) const ROOM: usize = 16_384;
+const ROOM: usize = 16_384;
 
 /// A sink of fixed room in memory. It fails only where it is full.
 #[derive(Drop)]
-pub(crate) struct Outbox {
+pub struct Outbox {
     bytes: Vec<u8>,
     faults: u64,
 }
 
 impl Model for Outbox {
     ghost use Rattle.std.specs.Prelude.{◌≤◌, vec_len, vec_capacity};
-    ghost use Rattle.orb_engine.specs.Boxes.{BoxState};
+    ghost use Rattle.orb_io.specs.Outboxes.{OutboxState};
 
-    ghost Value = { BoxState };
+    ghost Value = { OutboxState };
 
     ghost view = { λ b. record { bytes = b.bytes.items; faults = b.faults } };
 
@@ -31,11 +31,11 @@ impl Model for Outbox {
 
 impl Outbox {
     ghost use Rattle.std.specs.Prelude.{◌<◌, ◌+◌, ◌↔◌, IfOk, IsTrue, [], length};
-    ghost use Rattle.orb_engine.specs.Boxes.{BoxState, box_room, empty_box};
+    ghost use Rattle.orb_io.specs.Outboxes.{OutboxState, outbox_room, empty_outbox};
 
     /// Reserves the room.
-    pub(crate) fn open(alloc: Global) -> Result<Outbox, NoMemory>
-        ensures { IfOk result (λ b. b ≡ empty_box) }
+    pub fn open(alloc: Global) -> Result<Outbox, NoMemory>
+        ensures { IfOk result (λ b. b ≡ empty_outbox) }
     {
         match Vec::with_capacity(alloc, ROOM) {
             Ok(bytes) => Ok(Outbox { bytes, faults: 0 }),
@@ -44,32 +44,32 @@ impl Outbox {
     }
 
     /// Forgets the bytes, and the faults.
-    pub(crate) fn clear(&mut self)
-        ensures { self.new ≡ empty_box }
+    pub fn clear(&mut self)
+        ensures { self.new ≡ empty_outbox }
     {
         self.bytes.clear();
         self.faults = 0;
     }
 
     /// The bytes.
-    pub(crate) fn as_slice(&self) -> &[u8]
+    pub fn as_slice(&self) -> &[u8]
         ensures { result.now ≡ self.now.bytes }
     {
         self.bytes.as_slice()
     }
 
     /// Whether there is room for so many bytes, and one more.
-    #[tactic(auto, unfolding(crate::specs::Boxes::box_room))]
-    pub(crate) fn has_room(&self, most: u64) -> bool
-        ensures { IsTrue result ↔ length self.now.bytes + most < box_room }
+    #[tactic(auto, unfolding(crate::specs::Outboxes::outbox_room))]
+    pub fn has_room(&self, most: u64) -> bool
+        ensures { IsTrue result ↔ length self.now.bytes + most < outbox_room }
     {
         most < (ROOM - self.bytes.len()) as u64
     }
 }
 
 impl Sink for Outbox {
-    ghost use Rattle.orb_engine.specs.Boxes.{IsBehind};
-    ghost use Rattle.orb_engine.specs.BoxLaws.{IsBehind-same, IsBehind-twice};
+    ghost use Rattle.orb_io.specs.Outboxes.{OnlyFills};
+    ghost use Rattle.orb_io.specs.OutboxLaws.{OnlyFills-same, OnlyFills-twice};
     ghost use Rattle.std.specs.Prelude.{◌-◌, ◌^◌};
     ghost use Rattle.std.proofs.Common.{refl, length};
     ghost use Rattle.std.proofs.Math.Nat.{min-le_right as min_le_right};
@@ -78,20 +78,20 @@ impl Sink for Outbox {
 
     ghost faults = { λ b. b.faults };
 
-    ghost kept = { λ b c. IsBehind b c };
+    ghost kept = { λ b c. OnlyFills b c };
 
     ghost told_agrees = { λ b. record {
       number = refl;
       fits = min_le_right (length b.bytes) (2 ^ 64 - 1);
     } };
 
-    ghost kept_reflexive = { λ b. IsBehind-same b };
+    ghost kept_reflexive = { λ b. OnlyFills-same b };
 
-    ghost kept_transitive = { λ b c d first second. IsBehind-twice b c d first second };
+    ghost kept_transitive = { λ b c d first second. OnlyFills-twice b c d first second };
 
     fn push(&mut self, piece: &[u8]) -> Result<(), Failed> {
         let room = ROOM - self.bytes.len();
-        append(&mut self.bytes, front_of(piece, room));
+        append(&mut self.bytes, first_bytes(piece, room));
         if piece.len() <= room {
             Ok(())
         } else {

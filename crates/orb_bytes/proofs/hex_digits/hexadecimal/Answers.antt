@@ -1,6 +1,6 @@
 use Rattle.std.proofs.Common.{sym, arith}
-use Rattle.body_filter.proofs.DigitLemmas.{one_digit, two_digits, three_digits}
-use Rattle.body_filter.proofs.hexadecimal.hexadecimal.Goals as goal
+use Rattle.orb_bytes.proofs.HexadecimalLemmas.{one_digit, two_digits, three_digits}
+use Rattle.orb_bytes.proofs.hex_digits.hexadecimal.Goals as goal
 
 pub returns-then-number-lt16 : goal.returns-then-number-lt16
 returns-then-number-lt16 c =

@@ -8,9 +8,9 @@ use Rattle.std.proofs.lemmas.List.{length-take-le, take_all, take-take}
 use Rattle.std.proofs.lemmas.List.{take-append-drop}
 use Rattle.http_exchange.specs.Head.{head_end_bytes, begins_with_end, head_length}
 use Rattle.http_exchange.proofs.EndLemmas.{head_length-stays, head_length-bounds, head_length-alone}
-use Rattle.orb_engine.specs.Texts.{head_limit, IsOpenHead}
-use Rattle.orb_engine.specs.Gathering.{EndsBehind, TakesHead}
-use Rattle.orb_engine.specs.declared.heads.HeadTaken.TheVariants as taken
+use Rattle.http_exchange.specs.HeadTexts.{head_limit, IsOpenHead}
+use Rattle.http_exchange.specs.Gathering.{EndsAfter, TakesHead}
+use Rattle.http_exchange.specs.declared.gathering.HeadTaken.TheVariants as taken
 
 -- the first n of two texts see the first k of the second, where k is at least n
 pub take-seam : (n k : ℕ) (a b : List ℕ) → n ≤ k → take n (a ++ take k b) ≡ take n (a ++ b)
@@ -95,7 +95,7 @@ head_length-seam text piece none =
 -- the end is in the seam
 pub ends_in_seam : (text piece : List ℕ) (n : ℕ) → head_length text ≡ None
     → head_length (last_three text ++ take 3 piece) ≡ Some n
-    → EndsBehind text piece (Some (n - length (last_three text))) × (length (last_three text) ≤ n)
+    → EndsAfter text piece (Some (n - length (last_three text))) × (length (last_three text) ≤ n)
 ends_in_seam text piece n none found =
     let bounds = head_length-bounds (last_three text ++ take 3 piece) n found in
     let short : length (last_three text) ≤ 3 = omega (arith, length-drop (length text - 3) text) in
@@ -113,7 +113,7 @@ ends_in_seam text piece n none found =
 
 -- the end is in the second text, or there is none
 pub ends_in_piece : (text piece : List ℕ) (r : Option ℕ) → head_length text ≡ None
-    → head_length (last_three text ++ take 3 piece) ≡ None → r ≡ head_length piece → EndsBehind text piece r
+    → head_length (last_three text ++ take 3 piece) ≡ None → r ≡ head_length piece → EndsAfter text piece r
 ends_in_piece text piece r none seam found =
     by_answer r (head_length-seam text piece none
     ∙ ap (option_map (λ k. length (before_three text) + k)) (head_length-behind (last_three text) piece seam ∙ ap (option_map (λ k. length (last_three text) + k)) (sym found)))
@@ -121,7 +121,7 @@ ends_in_piece text piece r none seam found =
   where
     by_answer : (r : Option ℕ)
         → head_length (text ++ piece) ≡ option_map (λ k. length (before_three text) + k) (option_map (λ k. length (last_three text) + k) r)
-        → r ≡ head_length piece → EndsBehind text piece r
+        → r ≡ head_length piece → EndsAfter text piece r
     by_answer None is found = is
     by_answer (Some n) is found =
         let bounds = head_length-bounds piece n (sym found) in
@@ -129,7 +129,7 @@ ends_in_piece text piece r none seam found =
 
 -- a piece that completes a head
 pub takes_whole : (text piece front new : List ℕ) (k used : ℕ) → IsOpenHead text → front ≡ take k piece
-    → length text + k ≡ head_limit → EndsBehind text front (Some used) → new ≡ text ++ take used front
+    → length text + k ≡ head_limit → EndsAfter text front (Some used) → new ≡ text ++ take used front
     → TakesHead text new piece (taken.Whole used)
 takes_whole text piece front new k used open_ is room (ends, some, within) new_is =
     let less : used ≤ k = omega (arith, ap length is, length-take k piece) in

@@ -1,14 +1,14 @@
 -- What gathering the bytes of a head does with a piece.
 use Rattle.std.specs.Prelude.{◌≡◌, ℕ, ◌+◌, ◌≤◌, List, ◌++◌, length, take, Option, Some, None}
 use Rattle.http_exchange.specs.Head.{head_length}
-use Rattle.orb_engine.specs.declared.heads.HeadTaken.{HeadTaken}
-use Rattle.orb_engine.specs.declared.heads.HeadTaken.TheVariants as taken
-use Rattle.orb_engine.specs.Texts.{IsHeadText, IsOpenHead, IsLongHead}
+use Rattle.http_exchange.specs.declared.gathering.HeadTaken.{HeadTaken}
+use Rattle.http_exchange.specs.declared.gathering.HeadTaken.TheVariants as taken
+use Rattle.http_exchange.specs.HeadTexts.{IsHeadText, IsOpenHead, IsLongHead}
 
 -- the first empty line of the text and the piece behind it ends behind so many bytes of the piece, or there is none
-abbrev pub EndsBehind : (text piece : List ℕ) → Option ℕ → Type 0
-EndsBehind text piece None = head_length (text ++ piece) ≡ None
-EndsBehind text piece (Some used) =
+abbrev pub EndsAfter : (text piece : List ℕ) → Option ℕ → Type 0
+EndsAfter text piece None = head_length (text ++ piece) ≡ None
+EndsAfter text piece (Some used) =
     (head_length (text ++ piece) ≡ Some (length text + used)) × (1 ≤ used) × (used ≤ length piece)
 
 -- behind the bytes `before`, the piece was taken as this says
