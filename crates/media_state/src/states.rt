@@ -1,6 +1,6 @@
 //! The states of media resources, as the ORB proposal tells them apart.
-ghost use Rattle.std.specs.Prelude.{◌≡◌};
-ghost use Rattle.media_state.specs.States.{state_after};
+ghost use Rattle.std.specs.Prelude.{◌≡◌, ◌≤◌, length};
+ghost use Rattle.media_state.specs.States.{state_after, name_of};
 
 /// What is known of a request for media when its response comes.
 #[derive(Clone, Copy, Debug, PartialEq, Eq)]
@@ -11,6 +11,20 @@ pub enum MediaState {
     Initial,
     /// A response of its resource was let through as media.
     Subsequent,
+}
+
+impl MediaState {
+    /// Its name in reports: `na`, `initial` or `subsequent`.
+    pub fn name(&self) -> &'static [u8]
+        ensures value { result.now ≡ name_of self.now }
+        ensures short { length result.now ≤ 10 }
+    {
+        match self {
+            MediaState::Na => b"na",
+            MediaState::Initial => b"initial",
+            MediaState::Subsequent => b"subsequent",
+        }
+    }
 }
 
 /// The state after a response: `Subsequent` where it was let through as media, and else as before.

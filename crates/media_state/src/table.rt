@@ -5,7 +5,7 @@
 ghost use Rattle.std.specs.Prelude.{◌≡◌, ◌↔◌, ◌≤◌, true, IfOk, OnOk, OnErr, IsErr};
 ghost use Rattle.std.specs.Ordering.{nat_cmp};
 ghost use Rattle.std.specs.FinMap as map;
-ghost use Rattle.media_state.specs.Table.{admitted, HasNoRoom};
+ghost use Rattle.media_state.specs.Table.{admitted, HasNoRoom, Enters, IsKept, stored};
 
 use crate::states::MediaState;
 use orb_io::NoMemory;
@@ -90,6 +90,30 @@ impl MediaTable {
         match self.states.get_mut(&id) {
             Some(kept) => *kept = state,
             None => unreachable!(),
+        }
+    }
+
+    /// The state that a request for media finds, by the id of its resource; without one each is the first. The id
+    /// is kept; [`Full`] exactly where there is no room for it, and the table is then as before.
+    pub fn enter(&mut self, id: Option<u64>) -> Result<MediaState, Full>
+        ensures { Enters self.old self.new id result }
+    {
+        let Some(id) = id else {
+            return Ok(MediaState::Initial);
+        };
+        match self.admit(id) {
+            Ok(()) => Ok(self.look(id).unwrap_or(MediaState::Initial)),
+            Err(full) => Err(full),
+        }
+    }
+
+    /// Keeps the state that its response leaves, where there is an id.
+    pub fn leave(&mut self, id: Option<u64>, state: MediaState)
+        requires { IsKept self.old id }
+        ensures { self.new ≡ stored self.old id state }
+    {
+        if let Some(id) = id {
+            self.set(id, state);
         }
     }
 

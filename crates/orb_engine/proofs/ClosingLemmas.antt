@@ -15,8 +15,8 @@ use Rattle.std.proofs.lemmas.List.{append-nil}
 use Rattle.body_filter.specs.Exchanges.{Exchange}
 use Rattle.orb_engine.specs.declared.settings.Job.{Job}
 use Rattle.orb_engine.proofs.OutputLaws.{written_front-whole}
-use Rattle.orb_engine.specs.Heads.{admits, keeps}
-use Rattle.orb_engine.specs.Media.{IsKept, stored}
+use Rattle.media_state.specs.Table.{admits, keeps}
+use Rattle.media_state.specs.Table.{IsKept, stored}
 use Rattle.orb_engine.specs.Recording.{Item}
 use Rattle.orb_engine.specs.Outputs.{written_front, written_whole}
 use Rattle.orb_engine.specs.Counts.{rules_of_items}

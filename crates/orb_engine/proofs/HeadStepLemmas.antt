@@ -24,7 +24,8 @@ use Rattle.orb_engine.specs.declared.engine.Stage.TheVariants as stage
 use Rattle.orb_engine.specs.declared.outcome.EngineOutcome.{EngineOutcome}
 use Rattle.orb_engine.specs.declared.outcome.EngineOutcome.TheVariants as outcome
 use Rattle.http_exchange.specs.HeadTexts.{IsHeadText, IsOpenHead, IsLongHead}
-use Rattle.orb_engine.specs.Heads.{Request, id_of, admits, IsRefusedId, state_before}
+use Rattle.orb_engine.specs.Heads.{Request, id_of, state_before}
+use Rattle.media_state.specs.Table.{admits, IsRefusedId}
 use Rattle.orb_engine.specs.Recording as cut
 use Rattle.orb_engine.specs.Recording.{Item, Tail, Recording, IsRecording, IsTail, is_open, spell_items, spell_tail}
 use Rattle.orb_engine.specs.Ends as ends

@@ -7,7 +7,8 @@ use Rattle.http_exchange.specs.declared.refusals.BadKind.{BadKind}
 use Rattle.http_exchange.specs.declared.request.RequestHead.{RequestHead}
 use Rattle.orb_engine.specs.declared.settings.Settings.{Settings}
 use Rattle.http_exchange.specs.HeadTexts.{IsOpenHead}
-use Rattle.orb_engine.specs.Heads.{Request, Response, Heads, IsRequestIn, IsRefusedId, IsResponseHead, AreHeads, id_of}
+use Rattle.orb_engine.specs.Heads.{Request, Response, Heads, IsRequestIn, IsResponseHead, AreHeads, id_of}
+use Rattle.media_state.specs.Table.{IsRefusedId}
 use Rattle.orb_engine.specs.Recording as cut
 use Rattle.orb_engine.specs.Recording.{Tail, IsTail, spell_heads, spell_tail, is_open}
 use Rattle.orb_engine.proofs.HeadLaws.{Opens, Longs, Stands, view, view-open, view-stands, view-long, ask_once, bad_request_once, ask_or_bad, response_once, bad_response_once, response_or_bad}

@@ -17,6 +17,7 @@ use Rattle.std.specs.Prelude.{nat_le, is_none}
 use Rattle.std.proofs.lemmas.Bool.Decides.{nat_tests}
 use Rattle.std.proofs.lemmas.Fmt.{length-decimal-le}
 use Rattle.media_state.specs.declared.states.MediaState.{MediaState}
+use Rattle.media_state.specs.States.{name_of as state_name}
 use Rattle.media_state.specs.declared.states.MediaState.TheVariants as state
 use Rattle.response_rules.specs.declared.rules.Rule.{Rule}
 use Rattle.response_rules.specs.Rules.{is_allowing, state_behind}
@@ -24,7 +25,7 @@ use Rattle.response_rules.specs.Heads.{Head}
 use Rattle.response_rules.specs.Tables.{window_size}
 use Rattle.response_rules.specs.Settled.{is_in_text}
 use Rattle.response_rules.proofs.NameLemmas.{name-short}
-use Rattle.orb_engine.specs.Outputs.{state_name, verdict_name, line_of, line_by, written_front, written_whole}
+use Rattle.orb_engine.specs.Outputs.{verdict_name, line_of, line_by, written_front, written_whole}
 use Rattle.orb_engine.specs.Workers.{IsWorkerFor, WorkerReads}
 
 pub front-filter : (j : Job) (x : Exchange) (m : List ℕ) → j ≡ job.Filter → written_front j x m ≡ front_of x m

@@ -10,7 +10,8 @@ use Rattle.orb_engine.specs.declared.engine.Engine.{Engine}
 use Rattle.orb_engine.specs.declared.engine.Stage.TheVariants as stage
 use Rattle.orb_engine.specs.declared.outcome.EngineOutcome.{EngineOutcome}
 use Rattle.orb_engine.specs.declared.outcome.EngineOutcome.TheVariants as outcome
-use Rattle.orb_engine.specs.Heads.{id_of, admits, keeps, state_of, judged_by}
+use Rattle.orb_engine.specs.Heads.{id_of, state_of, judged_by}
+use Rattle.media_state.specs.Table.{admits, keeps}
 use Rattle.orb_engine.specs.Outputs.{written_items, written_whole}
 use Rattle.orb_engine.specs.Counts.{rules_of_items}
 use Rattle.orb_engine.specs.Writing.{IsWriterFor, WriterReads, gathered_by}

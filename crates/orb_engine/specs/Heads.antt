@@ -2,9 +2,9 @@
 use Rattle.std.specs.Prelude.{◌≡◌, ℕ, Bool, true, false, List, Option, Some, None, Ok, if◌then◌else◌, unwrap_or}
 use Rattle.std.specs.FinMap as map
 use Rattle.httparse.specs.Grammar.{status_code, ResponseHead}
-use Rattle.media_state.specs.Table.{States, admitted, HasNoRoom}
+use Rattle.media_state.specs.Table.{States, admits, kept_state, IsRefusedId}
 use Rattle.media_state.specs.declared.states.MediaState.{MediaState}
-use Rattle.media_state.specs.declared.states.MediaState.TheVariants.{Na, Initial}
+use Rattle.media_state.specs.declared.states.MediaState.TheVariants.{Na}
 use Rattle.response_rules.specs.Heads.{Head, HasEssence}
 use Rattle.response_rules.specs.Reads.{head_of}
 use Rattle.body_filter.specs.Exchanges as filter
@@ -41,29 +41,9 @@ pub record Heads : Type 0 where
 abbrev pub id_of : RequestHead → Option ℕ
 id_of asks = if asks.media then asks.media_id else None
 
--- the table of media states with the id kept
-abbrev pub admits : States → Option ℕ → States
-admits table None = table
-admits table (Some id) = admitted table id
-
--- the state that is kept of the id; without an id each request is the first
-abbrev pub kept_state : States → Option ℕ → MediaState
-kept_state table None = Initial
-kept_state table (Some id) = unwrap_or (map.get (admitted table id) id) Initial
-
 -- the state of its media resource that a request finds
 abbrev pub state_before : States → RequestHead → MediaState
 state_before table asks = if asks.media then kept_state table (id_of asks) else Na
-
--- the table with the id's state set
-abbrev pub keeps : States → Option ℕ → MediaState → States
-keeps table None state = table
-keeps table (Some id) state = map.insert (admitted table id) id state
-
--- the id can't be kept, since too many others are
-abbrev pub IsRefusedId : States → Option ℕ → Type 0
-IsRefusedId table None = ⊥
-IsRefusedId table (Some id) = HasNoRoom table id
 
 -- the bytes are a request head that says this
 pub record IsRequestHead (r : Request) : Type 0 where

@@ -4,7 +4,7 @@ use Rattle.std.specs.Prelude.{ℕ, ◌+◌, Bool, true, false, ◌&&◌, List, [
 use Rattle.std.specs.FinMap as map
 use Rattle.media_state.specs.Table.{States}
 use Rattle.media_state.specs.declared.states.MediaState.{MediaState}
-use Rattle.media_state.specs.declared.states.MediaState.TheVariants as state
+use Rattle.media_state.specs.States.{name_of as state_name}
 use Rattle.response_rules.specs.declared.rules.Rule.{Rule}
 use Rattle.response_rules.specs.Rules.{name_of, is_allowing, state_behind}
 use Rattle.response_rules.specs.Tables.{window_rule_of}
@@ -15,11 +15,6 @@ use Rattle.orb_engine.specs.declared.settings.Settings.{Settings}
 use Rattle.orb_engine.specs.Heads.{exchange_of, is_to_end}
 use Rattle.orb_engine.specs.Recording as cut
 use Rattle.orb_engine.specs.Recording.{Item, Tail, Recording, table_after, table_behind}
-
-abbrev pub state_name : MediaState → List ℕ
-state_name state.Na = codes "na"
-state_name state.Initial = codes "initial"
-state_name state.Subsequent = codes "subsequent"
 
 abbrev pub verdict_name : Bool → List ℕ
 verdict_name true = codes "allow"

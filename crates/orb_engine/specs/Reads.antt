@@ -21,7 +21,8 @@ use Rattle.response_rules.specs.declared.deciding.Decider.{Decider}
 use Rattle.body_filter.specs.Exchanges.{Exchange}
 use Rattle.http_exchange.specs.declared.frames.BodyFrame.{BodyFrame}
 use Rattle.http_exchange.specs.HeadTexts.{IsHeadText}
-use Rattle.orb_engine.specs.Heads.{Request, Response, Heads, AreHeads, IsRequestIn, IsResponseHead, id_of, admits, state_before, judged_by, exchange_of, is_to_end}
+use Rattle.orb_engine.specs.Heads.{Request, Response, Heads, AreHeads, IsRequestIn, IsResponseHead, id_of, state_before, judged_by, exchange_of, is_to_end}
+use Rattle.media_state.specs.Table.{admits}
 use Rattle.orb_engine.specs.Recording as cut
 use Rattle.orb_engine.specs.Recording.{Item, Tail, Recording, IsRecording, AreItems, is_open, spell_heads, spell_items, table_behind}
 use Rattle.orb_engine.specs.Ends as ends

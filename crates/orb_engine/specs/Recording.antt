@@ -14,7 +14,8 @@ use Rattle.http_exchange.specs.declared.refusals.BadKind.{BadKind}
 use Rattle.http_exchange.specs.declared.frames.BodyFrame.TheVariants as frame
 use Rattle.orb_engine.specs.declared.settings.Settings.{Settings}
 use Rattle.http_exchange.specs.HeadTexts.{IsHeadText, IsOpenHead, IsLongHead}
-use Rattle.orb_engine.specs.Heads.{Request, Heads, IsRequestHead, IsRequestIn, IsRefusedId, AreHeads, id_of, keeps, state_of, judged_by}
+use Rattle.orb_engine.specs.Heads.{Request, Heads, IsRequestHead, IsRequestIn, AreHeads, id_of, state_of, judged_by}
+use Rattle.media_state.specs.Table.{IsRefusedId, keeps}
 
 -- a whole exchange
 pub record Item : Type 0 where

@@ -6,7 +6,6 @@ ghost use Rattle.orb_engine.specs.Reads.{Causes, Coming};
 ghost use Rattle.orb_engine.specs.Closing.{IsClosing, Closes, ClosesDecided, coming_rule};
 
 use crate::engine::{Engine, Stage};
-use crate::media::leave;
 use crate::outcome::EngineOutcome;
 use orb_io::Sink;
 
@@ -53,7 +52,7 @@ impl Engine {
         let number = self.counts.allowed + self.counts.blocked + 1;
         match self.writer.end(number, output) {
             Ok(verdict) => {
-                leave(&mut self.media, id, verdict.state);
+                self.media.leave(id, verdict.state);
                 self.counts = self.counts.with(verdict.allow);
                 self.head.clear();
                 self.place = self.taken;

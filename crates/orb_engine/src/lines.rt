@@ -1,6 +1,6 @@
 //! The line of an exchange in a report.
 ghost use Rattle.std.specs.Prelude.{◌≡◌, ◌≤◌, length};
-ghost use Rattle.orb_engine.specs.Outputs.{line_of, state_name, verdict_name};
+ghost use Rattle.orb_engine.specs.Outputs.{line_of, verdict_name};
 
 use arrayvec::ArrayVec;
 use media_state::MediaState;
@@ -20,7 +20,7 @@ pub(crate) fn line(number: u64, rule: Rule, state: MediaState, length: u64) -> A
     extend(&mut line, b" ");
     extend(&mut line, rule.name());
     extend(&mut line, b" ");
-    extend(&mut line, name(state));
+    extend(&mut line, state.name());
     extend(&mut line, b" ");
     extend(&mut line, decimal(length).as_slice());
     extend(&mut line, b"\n");
@@ -32,15 +32,4 @@ fn verdict(allow: bool) -> &'static [u8]
     ensures short { length result.now ≤ 5 }
 {
     if allow { b"allow" } else { b"block" }
-}
-
-fn name(state: MediaState) -> &'static [u8]
-    ensures value { result.now ≡ state_name state }
-    ensures short { length result.now ≤ 10 }
-{
-    match state {
-        MediaState::Na => b"na",
-        MediaState::Initial => b"initial",
-        MediaState::Subsequent => b"subsequent",
-    }
 }
