@@ -1,3 +1,7 @@
 pub mod TrimLemmas
 pub mod DecimalLemmas
 pub mod HexadecimalLemmas
+pub mod RowSetLemmas
+pub mod MaskedLemmas
+pub mod RowLemmas
+pub mod WalkLemmas

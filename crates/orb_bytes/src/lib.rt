@@ -1,4 +1,5 @@
-//! Bytes as HTTP and MIME read them: classes, ASCII case, trimming and decimal numbers; and appending them.
+//! Bytes as HTTP and MIME read them: classes, ASCII case, trimming, decimal and hexadecimal numbers, rows of masked
+//! bytes; and appending them.
 //!
 //! `specs/` holds the definitions that every crate above cites: `Bytes` the classes, `Trim` what
 //! a text is without the ends, `Decimal` numbers, and `Fields` the fields of a head by their names.
@@ -8,17 +9,24 @@
 mod appending;
 mod classes;
 mod hex_digits;
+mod laws;
 mod letters;
 mod numbers;
+mod row_sets;
+mod rows;
 mod slices;
 mod trimming;
+mod walks;
 
 pub use appending::{append, extend};
 pub use classes::{
     is_http_ws, is_quoted_token, is_space_byte, is_tab_or_space, is_tag_end, is_token,
 };
 pub use hex_digits::hexadecimal;
+pub use laws::{closed_rows_stay, masked_is_by_place};
 pub use letters::{eq_ignore_case, lower};
 pub use numbers::{decimal, read_decimal};
+pub use rows::{Row, begins_masked, first_row};
 pub use slices::{first_bytes, last_bytes};
 pub use trimming::{trim_http_ws, trim_http_ws_end, trim_http_ws_start, trim_tab_or_space};
+pub use walks::Walk;

@@ -1,16 +1,9 @@
 -- Patterns of bytes under a mask, and where a text stands in a window (WHATWG MIME Sniffing 6).
-use Rattle.std.specs.Prelude.{◌≡◌, ℕ, zero, suc, ◌<◌, ◌≤◌, Bool, true, false, ◌&&◌, ◌||◌, ◌==◌, nat_eq, List, [], ◌∷◌, length, drop, slice_index, bit_and, if◌then◌else◌}
+use Rattle.std.specs.Prelude.{◌≡◌, ℕ, zero, suc, ◌<◌, ◌≤◌, Bool, false, ◌||◌, nat_eq, List, length, drop, slice_index, bit_and, if◌then◌else◌}
 use Rattle.std.specs.List.{starts_with}
 use Rattle.orb_bytes.specs.Bytes.{is_whitespace_byte}
 use Rattle.orb_bytes.specs.Trim.{without_leading}
-
--- the text begins with the pattern: it has a byte at each place of the pattern, and that byte under
--- the mask is the pattern's
-abbrev pub begins_masked : List ℕ → List ℕ → List ℕ → Bool
-begins_masked [] mask text = true
-begins_masked (b ∷ bytes) [] text = false
-begins_masked (b ∷ bytes) (m ∷ mask) [] = false
-begins_masked (b ∷ bytes) (m ∷ mask) (t ∷ text) = bit_and t m == b && begins_masked bytes mask text
+use Rattle.orb_bytes.specs.Rows.{begins_masked}
 
 -- the window from where a pattern is looked for: behind its leading whitespace bytes, where those
 -- are ignored

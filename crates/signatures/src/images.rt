@@ -1,10 +1,8 @@
 //! The table of images (WHATWG MIME Sniffing 6.1).
-//!
-//! The table is a `const`: a `static` can't hold a struct with a ghost field.
 ghost use Rattle.std.specs.Prelude.{◌≡◌};
 ghost use Rattle.signatures.specs.Rows.{image_of};
 
-use crate::patterns::{Pattern, first_match};
+use orb_bytes::{Row, first_row};
 
 /// The images that a window can show.
 #[derive(Clone, Copy, Debug, PartialEq, Eq)]
@@ -27,71 +25,52 @@ pub enum ImageType {
     Jpeg,
 }
 
-const IMAGES: [(Pattern, ImageType); 8] = [
-    (
-        Pattern {
-            bytes: b"\0\0\x01\0",
-            mask: b"\xff\xff\xff\xff",
-            skip_space: false,
-        },
-        ImageType::Icon,
-    ),
-    (
-        Pattern {
-            bytes: b"\0\0\x02\0",
-            mask: b"\xff\xff\xff\xff",
-            skip_space: false,
-        },
-        ImageType::Cursor,
-    ),
-    (
-        Pattern {
-            bytes: b"BM",
-            mask: b"\xff\xff",
-            skip_space: false,
-        },
-        ImageType::Bmp,
-    ),
-    (
-        Pattern {
-            bytes: b"GIF87a",
-            mask: b"\xff\xff\xff\xff\xff\xff",
-            skip_space: false,
-        },
-        ImageType::Gif87,
-    ),
-    (
-        Pattern {
-            bytes: b"GIF89a",
-            mask: b"\xff\xff\xff\xff\xff\xff",
-            skip_space: false,
-        },
-        ImageType::Gif89,
-    ),
-    (
-        Pattern {
-            bytes: b"RIFF\0\0\0\0WEBPVP",
-            mask: b"\xff\xff\xff\xff\0\0\0\0\xff\xff\xff\xff\xff\xff",
-            skip_space: false,
-        },
-        ImageType::Webp,
-    ),
-    (
-        Pattern {
-            bytes: b"\x89PNG\r\n\x1a\n",
-            mask: b"\xff\xff\xff\xff\xff\xff\xff\xff",
-            skip_space: false,
-        },
-        ImageType::Png,
-    ),
-    (
-        Pattern {
-            bytes: b"\xff\xd8\xff",
-            mask: b"\xff\xff\xff",
-            skip_space: false,
-        },
-        ImageType::Jpeg,
-    ),
+/// The rows of the table.
+static IMAGE_ROWS: [Row; 8] = [
+    Row {
+        bytes: b"\0\0\x01\0",
+        mask: b"\xff\xff\xff\xff",
+    },
+    Row {
+        bytes: b"\0\0\x02\0",
+        mask: b"\xff\xff\xff\xff",
+    },
+    Row {
+        bytes: b"BM",
+        mask: b"\xff\xff",
+    },
+    Row {
+        bytes: b"GIF87a",
+        mask: b"\xff\xff\xff\xff\xff\xff",
+    },
+    Row {
+        bytes: b"GIF89a",
+        mask: b"\xff\xff\xff\xff\xff\xff",
+    },
+    Row {
+        bytes: b"RIFF\0\0\0\0WEBPVP",
+        mask: b"\xff\xff\xff\xff\0\0\0\0\xff\xff\xff\xff\xff\xff",
+    },
+    Row {
+        bytes: b"\x89PNG\r\n\x1a\n",
+        mask: b"\xff\xff\xff\xff\xff\xff\xff\xff",
+    },
+    Row {
+        bytes: b"\xff\xd8\xff",
+        mask: b"\xff\xff\xff",
+    },
+];
+
+/// What each row shows.
+static IMAGE_TYPES: [ImageType; 8] = [
+    ImageType::Icon,
+    ImageType::Cursor,
+    ImageType::Bmp,
+    ImageType::Gif87,
+    ImageType::Gif89,
+    ImageType::Webp,
+    ImageType::Png,
+    ImageType::Jpeg,
 ];
 
 /// The image that the window shows: the first row of WHATWG MIME Sniffing 6.1 that matches; `None`
@@ -100,7 +79,8 @@ const IMAGES: [(Pattern, ImageType); 8] = [
 pub fn image_type(window: &[u8]) -> Option<ImageType>
     ensures { result ≡ image_of window.now }
 {
-    first_match(&IMAGES, window)
+    let index = first_row(&IMAGE_ROWS, window)?;
+    IMAGE_TYPES.get(index).copied()
 }
 
 #[cfg(test)]

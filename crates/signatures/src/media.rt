@@ -1,13 +1,11 @@
 //! The table of audio and video (WHATWG MIME Sniffing 6.2), and the signatures behind it.
-//!
-//! The table is a `const`: a `static` can't hold a struct with a ghost field.
 ghost use Rattle.std.specs.Prelude.{◌≡◌};
 ghost use Rattle.signatures.specs.Rows.{media_of};
 
 use crate::mp3::is_mp3;
 use crate::mp4::is_mp4;
-use crate::patterns::{Pattern, first_match};
 use crate::webm::is_webm;
+use orb_bytes::{Row, first_row};
 
 /// The audio and video that a window can show.
 #[derive(Clone, Copy, Debug, PartialEq, Eq)]
@@ -32,55 +30,42 @@ pub enum MediaType {
     MpegFrame,
 }
 
-const MEDIA: [(Pattern, MediaType); 6] = [
-    (
-        Pattern {
-            bytes: b"FORM\0\0\0\0AIFF",
-            mask: b"\xff\xff\xff\xff\0\0\0\0\xff\xff\xff\xff",
-            skip_space: false,
-        },
-        MediaType::Aiff,
-    ),
-    (
-        Pattern {
-            bytes: b"ID3",
-            mask: b"\xff\xff\xff",
-            skip_space: false,
-        },
-        MediaType::MpegTag,
-    ),
-    (
-        Pattern {
-            bytes: b"OggS\0",
-            mask: b"\xff\xff\xff\xff\xff",
-            skip_space: false,
-        },
-        MediaType::Ogg,
-    ),
-    (
-        Pattern {
-            bytes: b"MThd\0\0\0\x06",
-            mask: b"\xff\xff\xff\xff\xff\xff\xff\xff",
-            skip_space: false,
-        },
-        MediaType::Midi,
-    ),
-    (
-        Pattern {
-            bytes: b"RIFF\0\0\0\0AVI ",
-            mask: b"\xff\xff\xff\xff\0\0\0\0\xff\xff\xff\xff",
-            skip_space: false,
-        },
-        MediaType::Avi,
-    ),
-    (
-        Pattern {
-            bytes: b"RIFF\0\0\0\0WAVE",
-            mask: b"\xff\xff\xff\xff\0\0\0\0\xff\xff\xff\xff",
-            skip_space: false,
-        },
-        MediaType::Wave,
-    ),
+/// The rows of the table.
+static MEDIA_ROWS: [Row; 6] = [
+    Row {
+        bytes: b"FORM\0\0\0\0AIFF",
+        mask: b"\xff\xff\xff\xff\0\0\0\0\xff\xff\xff\xff",
+    },
+    Row {
+        bytes: b"ID3",
+        mask: b"\xff\xff\xff",
+    },
+    Row {
+        bytes: b"OggS\0",
+        mask: b"\xff\xff\xff\xff\xff",
+    },
+    Row {
+        bytes: b"MThd\0\0\0\x06",
+        mask: b"\xff\xff\xff\xff\xff\xff\xff\xff",
+    },
+    Row {
+        bytes: b"RIFF\0\0\0\0AVI ",
+        mask: b"\xff\xff\xff\xff\0\0\0\0\xff\xff\xff\xff",
+    },
+    Row {
+        bytes: b"RIFF\0\0\0\0WAVE",
+        mask: b"\xff\xff\xff\xff\0\0\0\0\xff\xff\xff\xff",
+    },
+];
+
+/// What each row shows.
+static MEDIA_TYPES: [MediaType; 6] = [
+    MediaType::Aiff,
+    MediaType::MpegTag,
+    MediaType::Ogg,
+    MediaType::Midi,
+    MediaType::Avi,
+    MediaType::Wave,
 ];
 
 /// The audio or video that the window shows: the first row of WHATWG MIME Sniffing 6.2 that matches,
@@ -89,8 +74,8 @@ const MEDIA: [(Pattern, MediaType); 6] = [
 pub fn media_type(window: &[u8]) -> Option<MediaType>
     ensures { result ≡ media_of window.now }
 {
-    if let Some(kind) = first_match(&MEDIA, window) {
-        return Some(kind);
+    if let Some(index) = first_row(&MEDIA_ROWS, window) {
+        return MEDIA_TYPES.get(index).copied();
     }
     if is_mp4(window) {
         Some(MediaType::Mp4)

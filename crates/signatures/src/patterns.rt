@@ -1,11 +1,10 @@
 //! Patterns of bytes under a mask (WHATWG MIME Sniffing 6).
-ghost use Rattle.std.specs.Prelude.{◌≡◌, length, drop, find};
-ghost use Rattle.std.specs.Option.{option_map};
+ghost use Rattle.std.specs.Prelude.{◌≡◌, length, drop};
 ghost use Rattle.orb_bytes.specs.Bytes.{is_whitespace_byte};
 ghost use Rattle.orb_bytes.specs.Trim.{without_leading};
-ghost use Rattle.signatures.specs.Patterns.{begins_masked, is_match, stands_at as text_stands_at};
+ghost use Rattle.signatures.specs.Patterns.{is_match, stands_at as text_stands_at};
 
-use orb_bytes::is_space_byte;
+use orb_bytes::{begins_masked, is_space_byte};
 
 /// Bytes that a window begins with, each under a mask: a bit that the mask has not is free.
 #[derive(Clone, Copy, Debug)]
@@ -35,22 +34,6 @@ impl Pattern {
     }
 }
 
-/// Whether the text begins with the bytes, each under its mask.
-fn begins_masked(bytes: &[u8], mask: &[u8], text: &[u8]) -> bool
-    requires { length mask.now ≡ length bytes.now }
-    ensures { result ≡ begins_masked bytes.now mask.now text.now }
-{
-    if text.len() < bytes.len() {
-        return false;
-    }
-    for (place, byte) in bytes.iter().enumerate() {
-        if text[place] & mask[place] != *byte {
-            return false;
-        }
-    }
-    true
-}
-
 /// The text without its leading whitespace bytes.
 fn behind_space(text: &[u8]) -> &[u8]
     ensures { result.now ≡ without_leading is_whitespace_byte text.now }
@@ -62,16 +45,6 @@ fn behind_space(text: &[u8]) -> &[u8]
         rest = others;
     }
     rest
-}
-
-/// The type of the first pattern that the window matches.
-pub fn first_match<K: Copy>(rows: &[(Pattern, K)], window: &[u8]) -> Option<K>
-    ensures { result ≡ option_map (λ row. row.1) (find (λ row.
-        is_match row.0.bytes.now row.0.mask.now row.0.skip_space window.now) rows.now) }
-{
-    rows.iter()
-        .find(|(pattern, _)| pattern.matches(window))
-        .map(|(_, kind)| *kind)
 }
 
 /// The window from the place on; empty where the place is past its end.

@@ -1,5 +1,5 @@
 use Rattle.std.proofs.Common.{◌≡◌, ◌<◌, ℕ, slice_index, bit_and}
-use Rattle.signatures.proofs.patterns.begins_masked.Given as goal
+use Rattle.orb_bytes.proofs.rows.begins_masked.Given as goal
 
 abbrev pub invariant-loop-place : goal.invariant-loop-place
 invariant-loop-place l =
