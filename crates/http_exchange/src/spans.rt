@@ -12,6 +12,9 @@ use httparse::spans::{EMPTY_HEADER_SPAN, HeaderSpan, parse_request, parse_respon
 /// The most fields that a head may have.
 const MOST_FIELDS: usize = 128;
 
+/// Room for the fields of most heads, which is tried first: to clear room for all costs more than to read most heads.
+const FEW_FIELDS: usize = 32;
+
 /// Whether the method of the request head is HEAD, with its fields in `spans`; `None` exactly where
 /// the bytes aren't one request head.
 pub(crate) fn request_fields(head: &[u8], spans: &mut ArrayVec<FieldSpan, 128>) -> Option<bool>
@@ -20,8 +23,26 @@ pub(crate) fn request_fields(head: &[u8], spans: &mut ArrayVec<FieldSpan, 128>) 
         × HasFields head.now spans.new.items h.fields) }
     ensures none { IfNone result ((h : RequestHead) → ¬ (IsRequest head.now h)) }
 {
-    let mut found = [EMPTY_HEADER_SPAN; MOST_FIELDS];
-    let Ok(Status::Complete(request)) = parse_request(head, &mut found) else {
+    let mut few = [EMPTY_HEADER_SPAN; FEW_FIELDS];
+    match request_within(head, &mut few, spans) {
+        Some(is_head) => Some(is_head),
+        None => request_within(head, &mut [EMPTY_HEADER_SPAN; MOST_FIELDS], spans),
+    }
+}
+
+/// The same, with room for as many fields as `found` is long.
+fn request_within(
+    head: &[u8],
+    found: &mut [HeaderSpan],
+    spans: &mut ArrayVec<FieldSpan, 128>,
+) -> Option<bool>
+    requires { length found.old ≤ 128 }
+    ensures found { IfSome result (λ is_head. (h : RequestHead) × IsRequest head.now h
+        × (is_head ≡ bytes_eq h.method (codes "HEAD"))
+        × HasFields head.now spans.new.items h.fields) }
+    ensures none { IfNone result (128 ≤ length found.old → (h : RequestHead) → ¬ (IsRequest head.now h)) }
+{
+    let Ok(Status::Complete(request)) = parse_request(head, found) else {
         return None;
     };
     if request.len != head.len() {
@@ -39,8 +60,26 @@ pub(crate) fn response_fields(head: &[u8], spans: &mut ArrayVec<FieldSpan, 128>)
         × HasFields head.now spans.new.items h.fields) }
     ensures none { IfNone result ((h : ResponseHead) → ¬ (IsResponse head.now h)) }
 {
-    let mut found = [EMPTY_HEADER_SPAN; MOST_FIELDS];
-    let Ok(Status::Complete(response)) = parse_response(head, &mut found) else {
+    let mut few = [EMPTY_HEADER_SPAN; FEW_FIELDS];
+    match response_within(head, &mut few, spans) {
+        Some(status) => Some(status),
+        None => response_within(head, &mut [EMPTY_HEADER_SPAN; MOST_FIELDS], spans),
+    }
+}
+
+/// The same, with room for as many fields as `found` is long.
+fn response_within(
+    head: &[u8],
+    found: &mut [HeaderSpan],
+    spans: &mut ArrayVec<FieldSpan, 128>,
+) -> Option<u16>
+    requires { length found.old ≤ 128 }
+    ensures found { IfSome result (λ status. (h : ResponseHead) × IsResponse head.now h
+        × (status ≡ status_code h)
+        × HasFields head.now spans.new.items h.fields) }
+    ensures none { IfNone result (128 ≤ length found.old → (h : ResponseHead) → ¬ (IsResponse head.now h)) }
+{
+    let Ok(Status::Complete(response)) = parse_response(head, found) else {
         return None;
     };
     if response.len != head.len() {

@@ -20,6 +20,8 @@ const HEAD: usize = 65_536;
 #[derive(Drop)]
 pub(crate) struct Heads {
     gathered: HeadReader,
+    // Where the fields of the last response head stood.
+    spans: ArrayVec<FieldSpan, 128>,
     scratch: Scratch,
 }
 
@@ -46,7 +48,11 @@ impl Heads {
     {
         let gathered = HeadReader::open(alloc)?;
         match Scratch::open(alloc, HEAD) {
-            Ok(scratch) => Ok(Heads { gathered, scratch }),
+            Ok(scratch) => Ok(Heads {
+                gathered,
+                spans: ArrayVec::new(),
+                scratch,
+            }),
             Err(_) => Err(NoMemory),
         }
     }
@@ -91,11 +97,10 @@ impl Heads {
         ensures reads { ReadsResponse asked settings self.old result }
         ensures same { self.new ≡ self.old }
     {
-        let mut spans: ArrayVec<FieldSpan, 128> = ArrayVec::new();
         match read_response(
             self.gathered.as_slice(),
             asked.asks.is_head,
-            &mut spans,
+            &mut self.spans,
             &mut self.scratch,
         ) {
             Ok(response) => {

@@ -12,6 +12,7 @@ use crate::verdicts::{Policy, Progress, Verdict};
 use arrayvec::ArrayVec;
 use header_values::{Fields, Scratch, coded, nosniff};
 use media_state::{MediaState, after};
+use orb_bytes::first_bytes;
 
 /// How many bytes of a body are looked at for its type.
 const WINDOW: usize = 1024;
@@ -32,6 +33,7 @@ pub struct Decider {
 
 impl Decider {
     ghost use Rattle.std.specs.Prelude.{Bool, Option, Some, false, []};
+    ghost use Rattle.std.specs.Option.{option_or};
     ghost use Rattle.header_values.specs.Fields.{AreOfHead, pairs_in};
     ghost use Rattle.response_rules.specs.Heads.{Head, HasEssence};
     ghost use Rattle.response_rules.specs.Tables.{window_rule_of};
@@ -92,7 +94,7 @@ impl Decider {
         let was_full = self.window.is_full();
         fill(&mut self.window, piece);
         if !was_full & self.window.is_full() {
-            self.settled = self.settled.or(self.judge());
+            self.settled = self.judged();
         }
         self.progress()
     }
@@ -128,7 +130,7 @@ impl Decider {
         if self.window.is_full() {
             self.settled
         } else {
-            self.settled.or(self.judge())
+            self.judged()
         }
     }
 
@@ -147,6 +149,18 @@ impl Decider {
             rule,
             allow: rule.allows(),
             state: after(self.facts.state, rule.is_media()),
+        }
+    }
+
+    /// The rule that is known for good, and else the first of the window that holds, where no more bytes come. The
+    /// window is looked at only where it is asked for.
+    fn judged(&self) -> Option<Rule>
+        ensures { (h : Head) → self.now.facts ≡ facts_of h
+            → result ≡ option_or self.now.settled (rule_in_window h self.now.window.items) }
+    {
+        match self.settled {
+            Some(rule) => Some(rule),
+            None => self.judge(),
         }
     }
 
@@ -195,20 +209,8 @@ fn fill(window: &mut ArrayVec<u8, WINDOW>, piece: &[u8])
     ensures { window.new.items ≡ take WINDOW (window.old.items ++ piece.now) }
 {
     let room = window.remaining_capacity();
-    match window.try_extend_from_slice(front_of(piece, room)) {
+    match window.try_extend_from_slice(first_bytes(piece, room)) {
         Ok(()) => {}
         Err(_) => unreachable!(),
-    }
-}
-
-/// The first bytes of the piece, at most so many.
-fn front_of(piece: &[u8], most: usize) -> &[u8]
-    ensures bytes { result.now ≡ take most piece.now }
-    ensures fits { length result.now ≤ most }
-{
-    if most < piece.len() {
-        piece.split_at(most).0
-    } else {
-        piece
     }
 }

@@ -19,8 +19,8 @@ returns-clause-reads c = λ h m r.
         states = r.states;
         policy = r.policy;
         facts = r.facts;
-        settled = w.or-self.ensures
-            ∙ (ap (option_or c.args.self.now.settled) (w.judge.ensures h r.facts ∙ ap (rule_in_window h) window)
+        settled = w.judged-self.ensures h r.facts
+            ∙ (ap (λ t. option_or c.args.self.now.settled (rule_in_window h t)) window
             ∙ settled_on-now h m p _ _ _ r.settled was now w.if-was_full-is_full.true);
         window = window;
         left = left;

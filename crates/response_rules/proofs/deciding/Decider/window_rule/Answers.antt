@@ -12,6 +12,6 @@ returns-then-is_full c = λ h m r.
 
 pub returns-else-is_full : goal.returns-else-is_full
 returns-else-is_full c = λ h m r.
-    c.«or».ensures
-    ∙ (ap (option_or c.args.self.now.settled) (c.judge.ensures h r.facts ∙ ap (rule_in_window h) r.window)
+    c.judged.ensures h r.facts
+    ∙ (ap (λ w. option_or c.args.self.now.settled (rule_in_window h w)) r.window
     ∙ rule_by-short h m _ r.settled (sym (full_by m _ r.window) ∙ (sym c.is_full.ensures.value ∙ c.if-is_full.false)))

@@ -3,7 +3,7 @@ use Rattle.std.proofs.lemmas.List.{drop_all, length-map, length-take}
 use Rattle.httparse.specs.Grammar.{ResponseHead, print_response}
 use Rattle.httparse.specs.Spans.{header_bytes, name_and_value}
 use Rattle.http_exchange.proofs.HeadSpans.{HasFields-found, length-response}
-use Rattle.http_exchange.proofs.spans.response_fields.Goals as goal
+use Rattle.http_exchange.proofs.spans.response_within.Goals as goal
 
 pub returns-clause-found : goal.returns-clause-found
 returns-clause-found c =

@@ -4,7 +4,7 @@ use Rattle.std.proofs.lemmas.List.{drop_all, length-map, length-take}
 use Rattle.httparse.specs.Grammar.{RequestHead, print_request}
 use Rattle.httparse.specs.Spans.{header_bytes, name_and_value}
 use Rattle.http_exchange.proofs.HeadSpans.{HasFields-found, length-request}
-use Rattle.http_exchange.proofs.spans.request_fields.Goals as goal
+use Rattle.http_exchange.proofs.spans.request_within.Goals as goal
 
 pub returns-clause-found : goal.returns-clause-found
 returns-clause-found c =
