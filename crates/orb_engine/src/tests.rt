@@ -185,7 +185,7 @@ impl Source for WatchedLink {
 
     fn pull(&mut self, buf: &mut [u8]) -> Result<usize, Failed> {
         let put = self.link.sink().bytes().len();
-        self.exact = self.exact && put == owed_behind(self.owed, self.read);
+        self.exact = self.exact && buf.len() == 8192 && put == owed_behind(self.owed, self.read);
         let pulled = self.link.pull(buf);
         if let Ok(count) = pulled {
             self.read = self.read.saturating_add(count);

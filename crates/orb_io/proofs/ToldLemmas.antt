@@ -1,7 +1,7 @@
 -- How losses, gains and counts of faults go together, call after call.
 use Rattle.std.proofs.Common.{◌≡◌, ℕ, ◌+◌, ◌-◌, ◌^◌, ◌<◌, ◌≤◌, List, [], ◌++◌, length, Option, None, Some, Result, Ok, Err, refl, sym, ap, ◌∙◌, subst, arith, append_assoc, length-append, IfOk, IfSome}
 use Rattle.std.proofs.lemmas.List.{append-nil}
-use Rattle.orb_io.specs.Told.{Told, Agrees, Loses, GainsBytes, GainsNumber, Gains, GainsPrefix, Gives, Owes, Delivers, IsPrefix, Rose, Pushes}
+use Rattle.orb_io.specs.Told.{Told, Agrees, Loses, GainsBytes, GainsNumber, Gains, GainsPrefix, IsPrefix, Pushes, untold}
 
 -- nothing is lost where nothing changes
 pub Loses-none : (left : Option (List ℕ)) → Loses left left []
@@ -100,3 +100,8 @@ pub Pushes-after : {T E : Type 0} (a b c : Told) (r : Result T E) (xs piece : Li
     → Pushes r b c piece → Pushes r a c (xs ++ piece)
 Pushes-after a b c (Ok done) xs piece first second = Gains-twice a b c xs piece first second
 Pushes-after a b c (Err failed) xs piece first second = GainsPrefix-after a b c xs piece first second
+
+-- a sink that tells nothing gains whatever is put
+pub Pushes-untold : {T E : Type 0} (r : Result T E) (piece : List ℕ) → Pushes r untold untold piece
+Pushes-untold (Ok done) piece = record { bytes = tt; number = tt }
+Pushes-untold (Err failed) piece = ([], IsPrefix-none piece, record { bytes = tt; number = tt })

@@ -6,7 +6,7 @@ ghost use Rattle.std.specs.Prelude.{◌≡◌, None};
 ghost use Rattle.std.specs.Io.{ReadsAtMost};
 ghost use Rattle.std.specs.Io.KnownBytes.{ReadConsumes};
 ghost use Rattle.orb_io.specs.Told.{Pulls, Pushes, HasCause, untold};
-ghost use Rattle.orb_io.specs.Counts.{CountsFault};
+ghost use Rattle.orb_io.specs.Counts.{CountsFault, IsCounted};
 ghost use Rattle.orb_io.specs.Streams.{PushAppends};
 
 use crate::fault_count::raised;
@@ -55,10 +55,7 @@ impl<R: Read> Source for StdSource<R> {
         ensures reads { ReadConsumes (R.remaining (reader_of self.old))
             (R.remaining (reader_of self.new)) result buf.new }
     {
-        match self.inner.read(buf) {
-            Ok(count) => Ok(count),
-            Err(_) => Err(raised(&mut self.faults)),
-        }
+        counted(self.inner.read(buf), &mut self.faults)
     }
 }
 
@@ -105,10 +102,18 @@ impl<W: Write> Sink for StdSink<W> {
         ensures writes { PushAppends (W.contents (writer_of self.old))
             (W.contents (writer_of self.new)) result piece.now }
     {
-        match write_and_flush(&mut self.inner, piece) {
-            Ok(()) => Ok(()),
-            Err(_) => Err(raised(&mut self.faults)),
-        }
+        counted(write_and_flush(&mut self.inner, piece), &mut self.faults)
+    }
+}
+
+/// The answer that stands for what std answered: the same value, or a failure that is counted.
+fn counted<T>(outcome: io::Result<T>, faults: &mut u64) -> Result<T, Failed>
+    ensures counted { IsCounted outcome result faults.old faults.new }
+    ensures cause { HasCause faults.old faults.new result }
+{
+    match outcome {
+        Ok(value) => Ok(value),
+        Err(_) => Err(raised(faults)),
     }
 }
 
