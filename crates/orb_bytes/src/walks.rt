@@ -115,3 +115,74 @@ fn fitting_rows(rows: &[Row], open_rows: RowSet, place: usize, b: u8) -> Fitting
     }
     Fitting { going_on, ending }
 }
+
+#[cfg(test)]
+mod tests {
+    use super::*;
+    use crate::rows::first_row;
+
+    static BREAKS: [Row; 2] = [
+        Row {
+            bytes: b"<B",
+            mask: b"\xff\xdf",
+        },
+        Row {
+            bytes: b"<BR",
+            mask: b"\xff\xdf\xdf",
+        },
+    ];
+
+    static OVERLAPPING: [Row; 3] = [
+        Row {
+            bytes: b"abcd",
+            mask: b"\xff\xff\xff\xff",
+        },
+        Row {
+            bytes: b"a\0c",
+            mask: b"\xff\0\xff",
+        },
+        Row {
+            bytes: b"ab",
+            mask: b"\xff\xff",
+        },
+    ];
+
+    fn fed(rows: &'static [Row], text: &[u8]) -> (Option<usize>, bool, bool)
+        requires { IsTrue (are_rows rows.now) }
+    {
+        let mut walk = Walk::new(rows);
+        for b in text {
+            walk.feed(*b);
+        }
+        (walk.whole(), walk.just_whole(), walk.is_open())
+    }
+
+    #[test]
+    fn rows_are_told_byte_by_byte(rt: HostRuntime) {
+        // text, the least row, whether one is just whole, whether one is open
+        let breaks: [(&[u8], Option<usize>, bool, bool); 7] = [
+            (b"", None, false, true),
+            (b"<", None, false, true),
+            (b"<b", Some(0), true, true),
+            (b"<br", Some(0), true, false),
+            (b"<bx", Some(0), false, false),
+            (b"<x", None, false, false),
+            (b"<brr", Some(0), false, false),
+        ];
+        for (text, whole, just, open) in breaks {
+            assert!(rt; fed(&BREAKS, text) == (whole, just, open), "{text:?}");
+        }
+        let overlapping: [(&[u8], Option<usize>, bool, bool); 6] = [
+            (b"a", None, false, true),
+            (b"ab", Some(2), true, true),
+            (b"abc", Some(1), true, true),
+            (b"axc", Some(1), true, false),
+            (b"abcd", Some(0), true, false),
+            (b"abce", Some(1), false, false),
+        ];
+        for (text, whole, just, open) in overlapping {
+            assert!(rt; fed(&OVERLAPPING, text) == (whole, just, open), "{text:?}");
+            assert!(rt; first_row(&OVERLAPPING, text) == whole, "{text:?}");
+        }
+    }
+}

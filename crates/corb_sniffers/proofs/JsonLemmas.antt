@@ -1,0 +1,137 @@
+-- The beginning of an object, as it is cut and as it is read.
+use Rattle.std.proofs.Common.{◌≡◌, ℕ, Bool, true, false, not, ◌&&◌, ◌==◌, List, [], ◌∷◌, ◌++◌, Option, None, Some, refl, sym, ap, ◌∙◌, inl, inr, eq-eqb}
+use Rattle.std.specs.Prelude.{MatchOption, is_some}
+use Rattle.std.specs.Option.{option_and_then}
+use Rattle.std.proofs.lemmas.Bool.{cases_Bool, and_parts, eqb-true, not-true}
+use Rattle.orb_bytes.specs.Bytes.{AllPass, is_http_whitespace}
+use Rattle.orb_bytes.specs.Trim.{without_leading}
+use Rattle.orb_bytes.proofs.TrimLemmas.{without_leading-stop}
+use Rattle.corb_sniffers.specs.Json.{SniffsJson, NameUnit, Plain, Escaped, IsUnit, AreUnits, units_text, is_text_byte, quote, backslash, brace, colon}
+use Rattle.corb_sniffers.specs.JsonReading.{behind_first, behind_byte, behind_name, behind_colon}
+use Rattle.corb_sniffers.proofs.SpaceLemmas.{leading_cut, leading_passed}
+
+-- white space, the byte, and the rest
+pub byte_cut : (byte : ℕ) (text rest : List ℕ) → behind_byte byte text ≡ Some rest
+    → (spaces : List ℕ) × AllPass is_http_whitespace spaces × (text ≡ spaces ++ (byte ∷ rest))
+byte_cut byte text rest is =
+    let cut = leading_cut is_http_whitespace text in
+    (cut.0, cut.1, cut.2 ∙ ap (λ t. cut.0 ++ t) (first (without_leading is_http_whitespace text) is)) where
+      first : (t : List ℕ) → behind_first byte t ≡ Some rest → t ≡ byte ∷ rest
+      first [] lie = absurd (cc)
+      first (b ∷ t) so = elim (cases_Bool (b == byte)) [
+        | inl same ↦ let found : Some t ≡ Some rest = rw same at so in let e : t ≡ rest = cc in rw (eqb-true b byte same, e) refl
+        | inr other ↦ let none : None ≡ Some rest = rw other at so in absurd (cc)
+      ]
+
+pub byte_read : (byte : ℕ) (spaces rest : List ℕ) → AllPass is_http_whitespace spaces → is_http_whitespace byte ≡ false
+    → behind_byte byte (spaces ++ (byte ∷ rest)) ≡ Some rest
+byte_read byte spaces rest all outside =
+    rw (leading_passed is_http_whitespace spaces (byte ∷ rest) all, without_leading-stop is_http_whitespace byte rest outside)
+    (rw (eq-eqb byte byte refl) refl)
+
+-- units, the quote, and the rest
+pub name_cut : (text rest : List ℕ) → behind_name text ≡ Some rest
+    → (name : List NameUnit) × AreUnits name × (text ≡ units_text name (quote ∷ rest))
+name_cut [] rest is = absurd (cc)
+name_cut (b ∷ []) rest is =
+    elim (cases_Bool (b == quote)) [
+      | inl same ↦
+          let found : Some [] ≡ Some rest = rw same at is in
+          let e : [] ≡ rest = cc in
+          ([], tt, ap (λ x. x ∷ []) (eqb-true b quote same) ∙ ap (λ t. quote ∷ t) e)
+      | inr other ↦ let none : None ≡ Some rest = rw other at is in absurd (cc)
+    ]
+name_cut (b ∷ c ∷ text) rest is =
+    elim (cases_Bool (b == quote)) [
+      | inl same ↦
+          let found : Some (c ∷ text) ≡ Some rest = rw same at is in
+          let e : c ∷ text ≡ rest = cc in
+          ([], tt, ap (λ x. x ∷ c ∷ text) (eqb-true b quote same) ∙ ap (λ t. quote ∷ t) e)
+      | inr no_quote ↦ elim (cases_Bool (b == backslash)) [
+        | inl escape ↦ elim (cases_Bool (is_text_byte c)) [
+          | inl good ↦
+              let later : behind_name text ≡ Some rest = rw (no_quote, escape, good) at is in
+              let more = name_cut text rest later in
+              (Escaped c ∷ more.0, (good, more.1), ap (λ x. x ∷ c ∷ text) (eqb-true b backslash escape) ∙ ap (λ t. backslash ∷ c ∷ t) more.2)
+          | inr bad ↦ let none : None ≡ Some rest = rw (no_quote, escape, bad) at is in absurd (cc)
+        ]
+        | inr no_escape ↦ elim (cases_Bool (is_text_byte b)) [
+          | inl good ↦
+              let later : behind_name (c ∷ text) ≡ Some rest = rw (no_quote, no_escape, good) at is in
+              let more = name_cut (c ∷ text) rest later in
+              (Plain b ∷ more.0, (rw (good, no_quote, no_escape) refl, more.1), ap (λ t. b ∷ t) more.2)
+          | inr bad ↦ let none : None ≡ Some rest = rw (no_quote, no_escape, bad) at is in absurd (cc)
+        ]
+      ]
+    ]
+
+-- a plain byte is passed
+plain_passed : (b : ℕ) (text : List ℕ) → IsUnit (Plain b) → behind_name (b ∷ text) ≡ behind_name text
+plain_passed b text good =
+    let parts = and_parts (is_text_byte b) (not (b == quote) && not (b == backslash)) good in
+    let others = and_parts (not (b == quote)) (not (b == backslash)) parts.1 in
+    let no_quote = not-true (b == quote) others.0 in
+    let no_escape = not-true (b == backslash) others.1 in
+    one text no_quote no_escape parts.0 where
+      one : (text : List ℕ) → (b == quote) ≡ false → (b == backslash) ≡ false → is_text_byte b ≡ true → behind_name (b ∷ text) ≡ behind_name text
+      one [] q e t = rw q refl
+      one (c ∷ text) q e t = rw (q, e, t) refl
+
+pub name_read : (name : List NameUnit) (rest : List ℕ) → AreUnits name → behind_name (units_text name (quote ∷ rest)) ≡ Some rest
+name_read [] [] good = refl
+name_read [] (c ∷ rest) good = refl
+name_read (Plain b ∷ name) rest good =
+    plain_passed b (units_text name (quote ∷ rest)) good.0 ∙ name_read name rest good.1
+name_read (Escaped b ∷ name) rest good = rw good.0 (name_read name rest good.1)
+
+-- ---- the whole
+
+pub json_to : (window rest : List ℕ) → behind_colon window ≡ Some rest → SniffsJson window
+json_to window rest is = object (behind_byte brace window) refl is where
+  member : (text name colons : List ℕ) → behind_byte brace window ≡ Some text → behind_byte quote text ≡ Some name
+      → behind_name name ≡ Some colons → behind_byte colon colons ≡ Some rest → SniffsJson window
+  member text name colons one two three four =
+      let first = byte_cut brace window text one in
+      let second = byte_cut quote text name two in
+      let third = name_cut name colons three in
+      let fourth = byte_cut colon colons rest four in
+      record {
+        before_brace = first.0;
+        before_name = second.0;
+        before_colon = fourth.0;
+        spaces = (first.1, second.1, fourth.1);
+        name = third.0;
+        good = third.1;
+        rest = rest;
+        cut = first.2 ∙ ap (λ t. first.0 ++ (brace ∷ t))
+            (second.2 ∙ ap (λ t. second.0 ++ (quote ∷ t)) (third.2 ∙ ap (λ t. units_text third.0 (quote ∷ t)) fourth.2));
+      }
+
+  named : (text name : List ℕ) (o : Option (List ℕ)) → behind_byte brace window ≡ Some text → behind_byte quote text ≡ Some name
+      → behind_name name ≡ o → option_and_then (behind_byte colon) o ≡ Some rest → SniffsJson window
+  named text name None one two three lie = absurd (cc)
+  named text name (Some colons) one two three four = member text name colons one two three four
+
+  opened : (text : List ℕ) (o : Option (List ℕ)) → behind_byte brace window ≡ Some text → behind_byte quote text ≡ o
+      → option_and_then (behind_byte colon) (option_and_then behind_name o) ≡ Some rest → SniffsJson window
+  opened text None one two lie = absurd (cc)
+  opened text (Some name) one two more = named text name (behind_name name) one two refl more
+
+  object : (o : Option (List ℕ)) → behind_byte brace window ≡ o
+      → option_and_then (behind_byte colon) (option_and_then behind_name (option_and_then (behind_byte quote) o)) ≡ Some rest → SniffsJson window
+  object None one lie = absurd (cc)
+  object (Some text) one more = opened text (behind_byte quote text) one refl more
+
+pub json_from : (window : List ℕ) (h : SniffsJson window) → behind_colon window ≡ Some h.rest
+json_from window h =
+    ap behind_colon h.cut
+    ∙ rw (byte_read brace h.before_brace (h.before_name ++ (quote ∷ units_text h.name (quote ∷ (h.before_colon ++ (colon ∷ h.rest))))) h.spaces.0 refl)
+    (rw (byte_read quote h.before_name (units_text h.name (quote ∷ (h.before_colon ++ (colon ∷ h.rest)))) h.spaces.1 refl)
+    (rw (name_read h.name (h.before_colon ++ (colon ∷ h.rest)) h.good) (byte_read colon h.before_colon h.rest h.spaces.2 refl)))
+
+-- what was read tells whether the window sniffs as JSON
+pub json_tells : {X : Type 0} (now : X → List ℕ) (window : List ℕ) (read : Option X)
+    → MatchOption read (behind_colon window ≡ None) (λ rest. behind_colon window ≡ Some (now rest))
+    → (is_some read ≡ true → SniffsJson window) × (SniffsJson window → is_some read ≡ true)
+json_tells now window None is = (λ lie. absurd (cc), λ h. let found = json_from window h in absurd (cc))
+json_tells now window (Some rest) is = (λ so. json_to window (now rest) is, λ h. refl)

@@ -1,0 +1,43 @@
+//! Parser breakers.
+ghost use Rattle.std.specs.Prelude.{IsTrue, ◌↔◌};
+ghost use Rattle.corb_sniffers.specs.Breakers.{HasBreaker, BeginsWithBreaker};
+
+use crate::spaces::after_spaces;
+use orb_bytes::{Row, first_row};
+
+static BREAKERS: [Row; 5] = [
+    Row {
+        bytes: b")]}'",
+        mask: b"\xff\xff\xff\xff",
+    },
+    Row {
+        bytes: b"{}&&",
+        mask: b"\xff\xff\xff\xff",
+    },
+    Row {
+        bytes: b"{} &&",
+        mask: b"\xff\xff\xff\xff\xff",
+    },
+    Row {
+        bytes: b"for(;;);",
+        mask: b"\xff\xff\xff\xff\xff\xff\xff\xff",
+    },
+    Row {
+        bytes: b"while(1);",
+        mask: b"\xff\xff\xff\xff\xff\xff\xff\xff\xff",
+    },
+];
+
+/// Whether the window begins with a parser breaker behind its leading white space.
+pub fn has_breaker(window: &[u8]) -> bool
+    ensures { IsTrue result ↔ HasBreaker window.now }
+{
+    begins_with_breaker(after_spaces(window))
+}
+
+/// Whether the text begins with a parser breaker.
+fn begins_with_breaker(text: &[u8]) -> bool
+    ensures { IsTrue result ↔ BeginsWithBreaker text.now }
+{
+    first_row(&BREAKERS, text).is_some()
+}

@@ -1,0 +1,12 @@
+//! XML.
+ghost use Rattle.std.specs.Prelude.{IsTrue, ◌↔◌};
+ghost use Rattle.corb_sniffers.specs.Xml.{SniffsXml};
+
+use crate::spaces::after_spaces;
+
+/// Whether the window begins with `<?xml` behind its leading white space.
+pub fn sniffs_xml(window: &[u8]) -> bool
+    ensures { IsTrue result ↔ SniffsXml window.now }
+{
+    after_spaces(window).starts_with(b"<?xml")
+}
