@@ -1,10 +1,10 @@
 -- A window with white space or a comment taken away sniffs alike.
-use Rattle.std.proofs.Common.{◌≡◌, ℕ, Bool, true, false, List, [], ◌∷◌, ◌++◌, codes, refl, sym, ap, ◌∙◌, inl, inr}
+use Rattle.std.proofs.Common.{◌≡◌, ℕ, true, false, List, [], ◌∷◌, ◌++◌, codes, sym, ap, inl, inr}
 use Rattle.std.proofs.lemmas.Bool.{cases_Bool}
 use Rattle.orb_bytes.specs.Bytes.{is_whitespace_byte}
 use Rattle.orb_bytes.specs.Trim.{without_leading}
 use Rattle.orb_bytes.proofs.TrimLemmas.{without_leading-more, without_leading-stop}
-use Rattle.corb_sniffers.specs.Html.{Piece, Space, Comment, IsPiece, ArePieces, EndsFirst, piece_text, pieces_text, BeginsWithTag, SniffsHtml}
+use Rattle.corb_sniffers.specs.Html.{Piece, Space, Comment, ArePieces, EndsFirst, piece_text, pieces_text, BeginsWithTag, SniffsHtml}
 use Rattle.corb_sniffers.specs.HtmlReading.{SniffsAlike, IsNoComment, IsNoSpace}
 use Rattle.corb_sniffers.proofs.CommentLemmas.{same_inside}
 use Rattle.corb_sniffers.proofs.TagLemmas.{tag_is_no_comment, tag_is_no_space}

@@ -1,13 +1,11 @@
 -- Rows at the front of a text with a byte behind them that ends a tag.
-use Rattle.std.proofs.Common.{◌≡◌, ℕ, zero, suc, ◌<◌, ◌≤◌, Bool, true, false, ◌&&◌, ◌||◌, ◌==◌, List, [], ◌∷◌, ◌++◌, length, get_or, take, drop, bit_and, refl, sym, ap, ◌∙◌, inl, inr, eq-eqb, arith}
+use Rattle.std.proofs.Common.{◌≡◌, ℕ, zero, suc, ◌<◌, Bool, true, false, ◌&&◌, ◌==◌, List, [], ◌∷◌, ◌++◌, length, get_or, take, drop, bit_and, refl, sym, ap, ◌∙◌, inl, inr, eq-eqb, arith}
 use Rattle.std.specs.List.{list_any}
 use Rattle.std.proofs.lemmas.List.{take-append-drop, length-take}
-use Rattle.std.proofs.Math.Seq.{drop-length}
 use Rattle.std.proofs.lemmas.Bool.{and_parts, and_from, or_cases, or_right, false_from_ne_true, cases_lt, cases_eq, eqb-true}
 use Rattle.orb_bytes.specs.Bytes.{is_tag_terminating}
 use Rattle.orb_bytes.specs.declared.rows.Row.{Row}
 use Rattle.orb_bytes.specs.Rows.{begins_masked, goes_on_masked, is_matched, is_just_matched, is_open}
-use Rattle.orb_bytes.proofs.MaskedLemmas.{to_places}
 use Rattle.corb_sniffers.specs.HtmlReading.{begins_ending, begins_with_ended}
 
 longer_text : (bytes mask text more : List ℕ) → begins_masked bytes mask text ≡ true → begins_masked bytes mask (text ++ more) ≡ true

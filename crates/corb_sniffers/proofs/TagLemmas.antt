@@ -1,15 +1,14 @@
 -- Tags in either case, and what they are not.
-use Rattle.std.proofs.Common.{◌≡◌, ℕ, suc, ◌+◌, ◌<◌, ◌≤◌, Bool, true, false, not, ◌&&◌, ◌||◌, ◌==◌, nat_le, List, [], ◌∷◌, ◌++◌, length, take, drop, map, codes, bit_and, refl, sym, ap, ◌∙◌, inl, inr, eq-eqb, arith, if◌then◌else◌}
+use Rattle.std.proofs.Common.{◌≡◌, ℕ, Bool, true, false, not, ◌&&◌, ◌||◌, ◌==◌, List, [], ◌∷◌, ◌++◌, length, drop, map, codes, bit_and, refl, sym, ap, ◌∙◌, inl, inr, eq-eqb, arith, if◌then◌else◌}
 use Rattle.std.proofs.Math.Seq.{drop-append_seam}
 use Rattle.std.proofs.lemmas.List.{map-append}
 use Rattle.std.specs.Char.{to_ascii_lowercase, is_ascii_uppercase}
-use Rattle.std.specs.Str.{str_to_ascii_lowercase, bytes_eq}
+use Rattle.std.specs.Str.{str_to_ascii_lowercase}
 use Rattle.std.specs.List.{list_all, list_any}
 use Rattle.std.proofs.lemmas.Bool.{cases_Bool, and_parts, and_from, eqb-true, agree_below, agree_below_at}
 use Rattle.std.proofs.lemmas.Bool.Decides.{nat_tests}
 use Rattle.std.proofs.lemmas.Slice.Eq.{bytes_eq-Decides}
 use Rattle.orb_bytes.specs.Bytes.{is_one_of, is_tag_terminating, is_whitespace_byte}
-use Rattle.orb_bytes.specs.Fields.{same_name}
 use Rattle.orb_bytes.specs.Rows.{begins_masked}
 use Rattle.corb_sniffers.specs.Texts.{IsListed}
 use Rattle.corb_sniffers.specs.Html.{tags, BeginsWithTag}

@@ -3,7 +3,7 @@ use Rattle.std.specs.Prelude.{◌≡◌, ℕ, Bool, false, ◌&&◌, List, [], �
 use Rattle.orb_bytes.specs.Bytes.{is_whitespace_byte, is_tag_terminating}
 use Rattle.orb_bytes.specs.declared.rows.Row.{Row}
 use Rattle.orb_bytes.specs.Rows.{is_matched}
-use Rattle.corb_sniffers.specs.Html.{Piece, Comment, EndsFirst, piece_text, SniffsHtml}
+use Rattle.corb_sniffers.specs.Html.{Comment, EndsFirst, piece_text, SniffsHtml}
 
 -- a byte that ends a tag stands first
 abbrev pub begins_ending : List ℕ → Bool

@@ -1,5 +1,5 @@
 -- Rows that a text begins with, and how they change with a byte more.
-use Rattle.std.proofs.Common.{◌≡◌, ℕ, zero, suc, ◌+◌, ◌<◌, ◌≤◌, Bool, true, false, not, ◌&&◌, ◌||◌, ◌==◌, nat_lt, nat_le, nat_eq, List, [], ◌∷◌, ◌++◌, length, slice_index, get_or, bit_and, Option, None, Some, cond, ◌⊎◌, inl, inr, refl, sym, ap, ◌∙◌, length-append, arith}
+use Rattle.std.proofs.Common.{◌≡◌, ℕ, zero, suc, ◌+◌, ◌<◌, ◌≤◌, Bool, true, false, not, ◌&&◌, ◌||◌, ◌==◌, nat_lt, nat_le, List, [], ◌∷◌, ◌++◌, length, slice_index, get_or, bit_and, Option, None, Some, inl, inr, refl, sym, ap, ◌∙◌, length-append, arith}
 use Rattle.std.specs.Prelude.{position, MatchOption}
 use Rattle.std.specs.List.{list_all, list_any, position_from}
 use Rattle.std.proofs.lemmas.Bool.{and_parts, and_from, or_cases, or_parts, or_right, false_from_ne_true}
@@ -8,7 +8,7 @@ use Rattle.std.proofs.lemmas.Bool.Decides.{nat_tests, Decides-eqb}
 use Rattle.std.proofs.lemmas.Iterator.Adapters.{position_from-zero}
 use Rattle.orb_bytes.proofs.MaskedLemmas.{to_places}
 use Rattle.orb_bytes.specs.declared.rows.Row.{Row}
-use Rattle.orb_bytes.specs.Rows.{begins_masked, goes_on_masked, BeginsByPlace, is_matched, is_just_matched, is_open, first_matched, is_row, are_rows, is_at, has_place, fits_at, ends_with, goes_on_with}
+use Rattle.orb_bytes.specs.Rows.{begins_masked, goes_on_masked, is_matched, is_just_matched, is_open, first_matched, is_row, is_at, has_place, fits_at, ends_with, goes_on_with}
 
 -- ---- bytes under a mask, and one more
 

@@ -1,7 +1,7 @@
 -- Rows of bytes under masks, and which of them a text begins with (WHATWG MIME Sniffing 6, the pattern matching algorithm
 -- where no leading bytes are ignored).
 use Rattle.std.specs.Prelude.{◌≡◌, ℕ, zero, suc, ◌<◌, ◌≤◌, Bool, true, false, ◌&&◌, ◌==◌, not, nat_le, nat_lt, ◌+◌, List, [], ◌∷◌, length, slice_index, bit_and, Option, position}
-use Rattle.std.specs.List.{list_all, list_any}
+use Rattle.std.specs.List.{list_all}
 use Rattle.orb_bytes.specs.declared.rows.Row.{Row}
 
 -- the text begins with the bytes under the mask: it has a byte at each of their places, and that byte

@@ -1,6 +1,5 @@
 -- Patterns, place by place.
 use Rattle.std.proofs.Common.{◌≡◌, ℕ, Bool, true, List, length, arith}
-use Rattle.orb_bytes.specs.Rows.{BeginsByPlace}
 use Rattle.orb_bytes.proofs.MaskedLemmas.{to_places, from_places}
 use Rattle.signatures.specs.Patterns.{MatchesByPlace, is_match, sniffed_part}
 

@@ -1,5 +1,5 @@
-use Rattle.std.proofs.Common.{◌≡◌, ◌∙◌, sym, ap, ◌++◌}
-use Rattle.std.specs.Prelude.{is_some, position}
+use Rattle.std.proofs.Common.{◌≡◌, ◌∙◌, sym, ap}
+use Rattle.std.specs.Prelude.{is_some}
 use Rattle.std.specs.List.{list_any}
 use Rattle.orb_bytes.specs.Rows.{begins_masked}
 use Rattle.corb_sniffers.specs.Breakers.{breakers}

@@ -1,7 +1,5 @@
-use Rattle.std.proofs.Common.{◌≡◌, ◌∙◌, sym, ap, ◌++◌}
 use Rattle.orb_bytes.specs.Bytes.{is_whitespace_byte}
 use Rattle.orb_bytes.specs.Trim.{without_leading}
-use Rattle.corb_sniffers.specs.Breakers.{BeginsWithBreaker}
 use Rattle.corb_sniffers.proofs.SpaceLemmas.{leading_cut, leading_passed}
 use Rattle.corb_sniffers.proofs.TextLemmas.{breaker_stays}
 use Rattle.corb_sniffers.proofs.breakers.has_breaker.Goals as goal

@@ -1,5 +1,4 @@
-use Rattle.std.proofs.Common.{◌≡◌, ◌++◌, take, drop, length, codes, sym, ap, ◌∙◌, None, Some, ℕ, ◌+◌, ◌-◌, List, length-drop, arith}
-use Rattle.std.specs.Prelude.{MatchOption}
+use Rattle.std.proofs.Common.{◌≡◌, ◌++◌, take, drop, length, codes, sym, ap, ◌∙◌, ℕ, ◌+◌, ◌-◌, List, length-drop, arith}
 use Rattle.std.specs.Cmp.Lexicographic.{same_text}
 use Rattle.std.proofs.lemmas.List.{take-append-drop, take_all}
 use Rattle.corb_sniffers.specs.HtmlReading.{IsNoComment}

@@ -1,6 +1,5 @@
-use Rattle.std.proofs.Common.{◌≤◌, ◌<◌, ◌++◌, ◌∷◌, length, sym, ap, ◌∙◌, codes, length-append, arith}
+use Rattle.std.proofs.Common.{◌++◌, length, sym, ap, ◌∙◌, codes, length-append, arith}
 use Rattle.orb_bytes.specs.Bytes.{is_whitespace_byte}
-use Rattle.corb_sniffers.specs.HtmlReading.{SniffsAlike, IsNoSpace}
 use Rattle.corb_sniffers.proofs.SpaceLemmas.{leading_outside, leading_length}
 use Rattle.corb_sniffers.proofs.HtmlLemmas.{spaces_alike, comment_alike}
 use Rattle.corb_sniffers.proofs.html.after_pieces.Goals as goal

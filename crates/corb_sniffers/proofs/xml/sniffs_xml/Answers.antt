@@ -1,4 +1,4 @@
-use Rattle.std.proofs.Common.{◌≡◌, ◌++◌, codes, nat_eq, refl, sym, ap, ◌∙◌}
+use Rattle.std.proofs.Common.{◌≡◌, ◌++◌, codes, nat_eq, sym, ap, ◌∙◌}
 use Rattle.std.specs.List.{starts_with}
 use Rattle.orb_bytes.specs.Bytes.{is_whitespace_byte}
 use Rattle.orb_bytes.specs.Trim.{without_leading}

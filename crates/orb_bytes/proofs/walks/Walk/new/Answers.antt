@@ -1,4 +1,4 @@
-use Rattle.std.proofs.Common.{refl, sym, ◌∙◌, arith}
+use Rattle.std.proofs.Common.{refl, sym, ◌∙◌}
 use Rattle.std.proofs.lemmas.Bool.{ltb-true}
 use Rattle.orb_bytes.proofs.RowLemmas.{open_first, none_first, none_just, first_place}
 use Rattle.orb_bytes.proofs.RowSetLemmas.{zero-none}
