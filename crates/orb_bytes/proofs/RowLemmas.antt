@@ -79,12 +79,6 @@ is_matched-more : (row : Row) → is_row row ≡ true → (text : List ℕ) (b :
     → is_matched (text ++ b ∷ []) row ≡ (is_matched text row || (is_open text row && ends_with (length text) b row))
 is_matched-more row good text b = begins_masked-more row.bytes.now row.mask.now text b (row_facts row good).0
 
--- a row that goes on isn't whole
-open_not_whole : (bytes mask text : List ℕ) → goes_on_masked bytes mask text ≡ true → begins_masked bytes mask text ≡ false
-open_not_whole bytes mask text is =
-    false_from_ne_true (begins_masked bytes mask text)
-    (λ whole. absurd (omega (arith, (to_places bytes mask text whole).long, (goes_on_masked-place bytes mask text is).0)))
-
 is_just_matched-more : (row : Row) → is_row row ≡ true → (text : List ℕ) (b : ℕ)
     → is_just_matched (text ++ b ∷ []) row ≡ (is_open text row && ends_with (length text) b row)
 is_just_matched-more row good text b =

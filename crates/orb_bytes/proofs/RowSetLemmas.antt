@@ -5,7 +5,7 @@ use Rattle.std.specs.Int.{bit_at, trailing_zeros, w32}
 use Rattle.std.proofs.lemmas.Bool.{cases_eq, cases_lt}
 use Rattle.std.proofs.lemmas.Bool.Decides.{nat_tests}
 use Rattle.std.proofs.lemmas.Nat.{and_le_l}
-use Rattle.std.proofs.lemmas.Nat.Bits.{bit_at-lt, bit_at_or, bit_at-zero, bit_at_ones, bit_at_ones_above, bit_at_set_same, bit_at_set_other, bit_at_clear_same, bit_at_clear_other, bit_at_above, bit_at-trailing_zeros, same_from_bits}
+use Rattle.std.proofs.lemmas.Nat.Bits.{bit_at-lt, bit_at_or, bit_at-zero, bit_at_ones, bit_at_ones_above, bit_at_set_same, bit_at_set_other, bit_at_clear_same, bit_at_clear_other, bit_at_above, bit_at-trailing_zeros}
 
 -- a bit is 0 or 1
 pub is_bit : (n i : ℕ) → (bit_at n i ≡ 0) ⊎ (bit_at n i ≡ 1)
@@ -66,13 +66,7 @@ cleared_is_less n k small within set =
       | inr less ↦ omega arith
     ]
 
--- no bit is set exactly in 0
-pub none_set : (n : ℕ) → ((i : ℕ) → (bit_at n i == 1) ≡ false) → n ≡ 0
-none_set n none = same_from_bits n 0 (λ i. elim (is_bit n i) [
-  | inl zero_bit ↦ zero_bit ∙ sym (bit_at-zero i)
-  | inr one_bit ↦ let lie : (bit_at n i == 1) ≡ true = rw one_bit refl in absurd (cc (none i))
-])
-
+-- 0 has no bit
 pub zero-none : (n : ℕ) → n ≡ 0 → (i : ℕ) → (bit_at n i == 1) ≡ false
 zero-none n is i = rw (is, bit_at-zero i) refl
 
