@@ -1,5 +1,5 @@
 -- The last run of a list of records, one record after the other.
-use Rattle.std.proofs.Common.{◌≡◌, ℕ, ◌+◌, suc, Bool, true, false, ◌&&◌, if◌then◌else◌, List, [], ◌∷◌, ◌++◌, take, reverse, take_while, bytes_eq, codes, Option, Some, None, option_to_list, refl, sym, ap, subst, ◌∙◌, append_assoc, append-nil, arith}
+use Rattle.std.proofs.Common.{◌≡◌, ℕ, ◌+◌, suc, Bool, true, false, ◌&&◌, if◌then◌else◌, List, [], ◌∷◌, ◌++◌, take, reverse, take_while, bytes_eq, Option, Some, None, option_to_list, refl, sym, ap, subst, ◌∙◌, append_assoc, append-nil, arith}
 use Rattle.std.specs.List.{list_all, prefix_len}
 use Rattle.std.proofs.lemmas.Bool.{and_parts, and_from}
 use Rattle.std.proofs.lemmas.List.{reverse-append}
@@ -7,9 +7,8 @@ use Rattle.std.proofs.lemmas.List.Folds.{list_all-append}
 use Rattle.std.proofs.lemmas.Slice.Eq.{bytes_eq-Decides}
 use Rattle.mime_types.specs.Mime.{Mime, IsMime, HasNoMime}
 use Rattle.header_values.specs.declared.run.Run.{Run}
-use Rattle.header_values.specs.Joined.{joined}
-use Rattle.header_values.specs.Cuts.{parts_of, parts_left_of}
-use Rattle.header_values.specs.Extracted.{HaveRecords, is_any_type, kept_of, same_essence, first_run, last_run, charset_of, with_charset, answer_of, extracted_of, IsExtracted}
+use Rattle.header_values.specs.Cuts.{parts_of}
+use Rattle.header_values.specs.Extracted.{HaveRecords, is_any_type, kept_of, same_essence, first_run, last_run, charset_of, with_charset, answer_of, extracted_of}
 use Rattle.header_values.specs.Runs.{run_with, run_behind, answer_by, answer_in, last_in, IsRunOf, IsKeptMime, IsLastMime}
 use Rattle.header_values.proofs.ExtractLemmas.{kept_of-append, HaveRecords-append, last_run-ends, ends, extracted_of-none}
 

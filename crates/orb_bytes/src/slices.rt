@@ -30,7 +30,12 @@ mod tests {
 
     #[test]
     fn first_and_last_bytes(rt: HostRuntime) {
-        for (most, first, last) in [(0, "", ""), (2, "ab", "bc"), (3, "abc", "abc"), (4, "abc", "abc")] {
+        for (most, first, last) in [
+            (0, "", ""),
+            (2, "ab", "bc"),
+            (3, "abc", "abc"),
+            (4, "abc", "abc"),
+        ] {
             assert_eq!(rt; first_bytes(b"abc", most), first.as_bytes());
             assert_eq!(rt; last_bytes(b"abc", most), last.as_bytes());
         }

@@ -42,7 +42,7 @@ impl Engine {
 
     /// Reads the request head that has come.
     fn begin_answer(&mut self) -> Result<(), EngineOutcome>
-        requires can { (s : Settings) × (m : List ℕ) × (given : List ℕ) 
+        requires can { (s : Settings) × (m : List ℕ) × (given : List ℕ)
             × HasRequest IsHeadText self.old s m given }
         ensures settles { (s : Settings) (m given : List ℕ) → HasRequest IsHeadText self.old s m given
             → Settles result self.new s m given }
@@ -109,7 +109,7 @@ impl Engine {
 
     /// Reads the response head that has come.
     fn begin_body<O: Sink>(&mut self, asked: Asked, output: &mut O) -> Result<(), EngineOutcome>
-        requires can { (s : Settings) × (m : List ℕ) × (given : List ℕ) 
+        requires can { (s : Settings) × (m : List ℕ) × (given : List ℕ)
             × HasResponse IsHeadText asked self.old s m given }
         requires few { self.old.taken ≤ 2 ^ 62 }
         ensures settles { (s : Settings) (m given : List ℕ) → HasResponse IsHeadText asked self.old s m given

@@ -1,7 +1,7 @@
 -- Calls that push, one after the other.
-use Rattle.std.proofs.Common.{◌≡◌, ℕ, List, [], ◌++◌, Result, Ok, Err, refl, ◌∙◌}
-use Rattle.orb_io.specs.Told.{Agrees, HasCause, Pushes}
-use Rattle.orb_io.specs.Calls.{Calls, Puts}
+use Rattle.std.proofs.Common.{◌≡◌, ℕ, List, [], ◌++◌, Result, Ok, Err, refl}
+use Rattle.orb_io.specs.Told.{Agrees, HasCause}
+use Rattle.orb_io.specs.Calls.{Puts}
 use Rattle.orb_io.specs.declared.outside.Sink.{Ghosts}
 use Rattle.orb_io.proofs.ToldLemmas.{Gains-none, GainsPrefix-first, Pushes-after}
 

@@ -1,7 +1,7 @@
 -- What holds of all that a sink was given, call after call.
-use Rattle.std.proofs.Common.{◌≡◌, ℕ, List, [], ◌++◌, Result, Ok, Err, IfOk, OnOk, sym, ap, ◌∙◌, subst, append_assoc}
+use Rattle.std.proofs.Common.{◌≡◌, ℕ, List, [], ◌++◌, Result, Ok, Err, OnOk, sym, ap, ◌∙◌, subst, append_assoc}
 use Rattle.std.proofs.lemmas.List.{append-nil}
-use Rattle.orb_io.specs.Told.{Told, Agrees, Gains, GainsPrefix, Gives, Owes, Delivers, IsPrefix, Pushes}
+use Rattle.orb_io.specs.Told.{Told, Agrees, Gains, GainsPrefix, Gives, Delivers, IsPrefix, Pushes}
 use Rattle.orb_io.proofs.ToldLemmas.{Gains-none, Gains-twice, IsPrefix-after}
 
 pub Gives-of : (old new : Told) (given more : List ℕ) (P : List ℕ → Type 0) → Gains old new more → P (given ++ more)

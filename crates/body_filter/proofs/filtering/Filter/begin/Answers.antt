@@ -28,21 +28,25 @@ pub returns-in-Blocked-clause-delivers : goal.returns-in-Blocked-clause-delivers
 returns-in-Blocked-clause-delivers g c = λ h r.
     let x = exchange_of h c.args.head.now c.args.chunked in
     let judged = judged-blocked _ _ (c.in-Blocked.ensures h [] r) in
-    Gives-none _ [] _ (g.met.O.Sink.told_agrees c.args.sink.now) (sym (front-unsent x [] judged.0),
-    (reads-dropping _ x [] (made-limit c.args.decider _ h c.requires.made r) r refl
-    (record { over = given_up-first h ∙ judged.1 })))
+    Gives-none _ [] _ (g.met.O.Sink.told_agrees c.args.sink.now) (
+      sym (front-unsent x [] judged.0),
+      (reads-dropping _ x [] (made-limit c.args.decider _ h c.requires.made r) r refl
+          (record { over = given_up-first h ∙ judged.1 })),
+    )
 
 pub returns-in-Open-clause-delivers : goal.returns-in-Open-clause-delivers
 returns-in-Open-clause-delivers g c = λ h r.
     let x = exchange_of h c.args.head.now c.args.chunked in
     let judged = judged-open _ _ (c.in-Open.ensures h [] r) in
-    Gives-none _ [] _ (g.met.O.Sink.told_agrees c.args.sink.now) (sym (front-unsent x [] judged.0),
-    (reads-holding _ x [] (made-limit c.args.decider _ h c.requires.made r) r refl
-    (record {
-      unsent = judged.0;
-      hopeful = given_up-first h ∙ judged.1;
-      head = c.append.ensures.items ∙ ap (λ t. t ++ c.args.head.now) c.clear-in-Open.ensures.items;
-      held = c.clear.ensures.items;
-      chunked = c.start.ensures.chunked;
-      rest = c.start.ensures.rest;
-    })))
+    Gives-none _ [] _ (g.met.O.Sink.told_agrees c.args.sink.now) (
+      sym (front-unsent x [] judged.0),
+      (reads-holding _ x [] (made-limit c.args.decider _ h c.requires.made r) r refl
+          (record {
+            unsent = judged.0;
+            hopeful = given_up-first h ∙ judged.1;
+            head = c.append.ensures.items ∙ ap (λ t. t ++ c.args.head.now) c.clear-in-Open.ensures.items;
+            held = c.clear.ensures.items;
+            chunked = c.start.ensures.chunked;
+            rest = c.start.ensures.rest;
+          })),
+    )

@@ -36,10 +36,11 @@ returns-in-Blocked-clause-delivers g c = λ x m r.
     let p = c.args.piece.now in
     let s = holds-of f x m c.requires.holding r in
     let judged = judged-blocked _ _ (c.in-Blocked.ensures _ _ (c.read_on.ensures.gives x.head m r.decides)) in
-    Gives-none _ (front_of x m) _ (g.met.O.Sink.told_agrees c.args.sink.now)
-    (front-unsent x m s.unsent ∙ sym (front-unsent x (m ++ p) judged.0),
-    (reads-dropping _ x (m ++ p) r.limit (c.read_on.ensures.reads x.head m r.decides) refl
-    (record { over = given_up-fits x.head m p f.limit c.len.result _ r.limit (c.len.ensures ∙ (f.held.ok.0 ∙ ap length s.held)) (omega arith) (omega arith) judged.0 judged.1 })))
+    Gives-none _ (front_of x m) _ (g.met.O.Sink.told_agrees c.args.sink.now) (
+      front-unsent x m s.unsent ∙ sym (front-unsent x (m ++ p) judged.0),
+      (reads-dropping _ x (m ++ p) r.limit (c.read_on.ensures.reads x.head m r.decides) refl
+          (record { over = given_up-fits x.head m p f.limit c.len.result _ r.limit (c.len.ensures ∙ (f.held.ok.0 ∙ ap length s.held)) (omega arith) (omega arith) judged.0 judged.1 })),
+    )
 
 pub returns-in-Open-clause-delivers : goal.returns-in-Open-clause-delivers
 returns-in-Open-clause-delivers g c = λ x m r.
@@ -47,14 +48,15 @@ returns-in-Open-clause-delivers g c = λ x m r.
     let p = c.args.piece.now in
     let s = holds-of f x m c.requires.holding r in
     let judged = judged-open _ _ (c.in-Open.ensures _ _ (c.read_on.ensures.gives x.head m r.decides)) in
-    Gives-none _ (front_of x m) _ (g.met.O.Sink.told_agrees c.args.sink.now)
-    (front-unsent x m s.unsent ∙ sym (front-unsent x (m ++ p) judged.0),
-    (reads-holding _ x (m ++ p) r.limit (c.read_on.ensures.reads x.head m r.decides) c.requires.holding
-    (record {
-      unsent = judged.0;
-      hopeful = given_up-fits x.head m p f.limit c.len.result _ r.limit (c.len.ensures ∙ (f.held.ok.0 ∙ ap length s.held)) (omega arith) (omega arith) judged.0 judged.1;
-      head = s.head;
-      held = c.append.ensures.items ∙ ap (λ t. t ++ p) s.held;
-      chunked = s.chunked;
-      rest = s.rest;
-    })))
+    Gives-none _ (front_of x m) _ (g.met.O.Sink.told_agrees c.args.sink.now) (
+      front-unsent x m s.unsent ∙ sym (front-unsent x (m ++ p) judged.0),
+      (reads-holding _ x (m ++ p) r.limit (c.read_on.ensures.reads x.head m r.decides) c.requires.holding
+          (record {
+            unsent = judged.0;
+            hopeful = given_up-fits x.head m p f.limit c.len.result _ r.limit (c.len.ensures ∙ (f.held.ok.0 ∙ ap length s.held)) (omega arith) (omega arith) judged.0 judged.1;
+            head = s.head;
+            held = c.append.ensures.items ∙ ap (λ t. t ++ p) s.held;
+            chunked = s.chunked;
+            rest = s.rest;
+          })),
+    )
