@@ -7,6 +7,7 @@ pub mod Strings
 pub mod Patterns
 pub mod Tokens
 pub mod Texts
+pub mod Suits
 pub mod Begins
 pub mod Places
 pub mod Rests
