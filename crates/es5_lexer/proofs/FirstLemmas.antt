@@ -6,12 +6,13 @@ use Rattle.ucd_category.specs.GeneralCategoryRows.{general_category_rows}
 use Rattle.ucd_table.specs.Rows.{value_in}
 use Rattle.text_stream.specs.Classes.{class_of}
 use Rattle.es5_lexer.specs.Characters.{is_start, is_digit, is_start_class}
+use Rattle.es5_lexer.specs.Suits.{is_div}
 use Rattle.es5_lexer.specs.Punctuators.{spelling, is_under}
 use Rattle.es5_lexer.specs.Numbers.{is_nonzero, IsFraction, IsNumber}
 use Rattle.es5_lexer.specs.Places.{mark, by_equals, by_itself, longer, behind_slash, behind_mark, first}
 use Rattle.es5_lexer.specs.Rests.{IsKind, MarkRest, Rest}
 use Rattle.es5_lexer.specs.declared.tokens.Goal.{Goal}
-use Rattle.es5_lexer.specs.declared.tokens.Goal.TheVariants.{Div, RegExp}
+use Rattle.es5_lexer.specs.declared.tokens.Goal.TheVariants.{RegExp}
 use Rattle.es5_lexer.specs.declared.tokens.Punct.{Punct}
 use Rattle.es5_lexer.specs.declared.tokens.Punct.TheVariants.{LeftBrace, RightBrace, LeftParen, RightParen, LeftBracket, RightBracket, Dot, Semicolon, Comma, Less, Greater, LessEqual, GreaterEqual, Equal, NotEqual, SameEqual, NotSame, Plus, Minus, Star, Percent, PlusPlus, MinusMinus, ShiftLeft, ShiftRight, ShiftRightZero, And, Or, Xor, Not, Tilde, AndAnd, OrOr, Question, Colon, Assign, PlusAssign, MinusAssign, StarAssign, PercentAssign, ShiftLeftAssign, ShiftRightAssign, ShiftRightZeroAssign, AndAssign, OrAssign, XorAssign, Slash, SlashAssign}
 use Rattle.es5_lexer.specs.declared.places.Kind.{Kind}
@@ -78,15 +79,14 @@ whole g ShiftRightZeroAssign h = inl (ShiftRight, refl, inl (ShiftRightZero, ref
 whole g AndAssign h = inl (AndAssign, refl, refl)
 whole g OrAssign h = inl (OrAssign, refl, refl)
 whole g XorAssign h = inl (XorAssign, refl, refl)
-whole Div Slash h = refl
-whole RegExp Slash h = absurd cc
-whole Div SlashAssign h = inl (SlashAssign, refl, refl)
-whole RegExp SlashAssign h = absurd cc
+whole g Slash h = then_in (At (APunct Slash) []) (is_div g) _ _ h refl
+whole g SlashAssign h = then_in (At (APunct SlashAssign) (61 ∷ [])) (is_div g) _ _ h (inl (SlashAssign, refl, refl))
 
--- under division all punctuators stand, and one under the other goal stands under both
+-- one that stands where a slash begins a regular expression stands under each goal
 under_both : (g : Goal) (q : Punct) → is_under RegExp q ≡ true → is_under g q ≡ true
-under_both Div q h = refl
-under_both RegExp q h = h
+under_both g Slash h = absurd cc
+under_both g SlashAssign h = absurd cc
+under_both g _ h = refl
 
 -- the punctuator that a character makes of one is spelled so, and stands where that one does
 abbrev Grows : Punct → ℕ → Punct → Type 0
@@ -97,8 +97,7 @@ grown p c q r e s u =
     let same : q ≡ r = cc in subst (λ (x : Punct). Grows p c x) same (s, λ g _. under_both g q u)
 
 slash_grown : (g : Goal) → is_under g Slash ≡ true → is_under g SlashAssign ≡ true
-slash_grown Div h = refl
-slash_grown RegExp h = h
+slash_grown g h = h
 
 equals_grown : (p q : Punct) → by_equals p ≡ Some q → Grows p 61 q
 equals_grown Less q e = grown Less 61 LessEqual q e refl refl
@@ -205,8 +204,7 @@ empty_no_kind g AName h = h
 empty_no_kind g (APunct p) h = subst (λ (w : List ℕ). FirstRest g p w) (sym h.0) (whole g p h.1)
 empty_no_kind g ANumber h = h
 empty_no_kind g AText h = h
-empty_no_kind Div APattern h = h
-empty_no_kind RegExp APattern h = h
+empty_no_kind g APattern h = h.1
 
 nonzero_digit : (c : ℕ) → is_nonzero c ≡ true → (is_digit c ≡ true) × ((c == 92) ≡ false) × ((c == 48) ≡ false)
 nonzero_digit c h = (grind (arith, nat_tests), grind (arith, nat_tests), grind (arith, nat_tests))
@@ -236,14 +234,17 @@ first_goes g AText c u (inl (e, h)) =
     at_first g AText c 34 u e (else_in (At AText u) (is_start 34) _ _ (ap is_start_class double_quote) (refl, h))
 first_goes g AText c u (inr (e, h)) =
     at_first g AText c 39 u e (else_in (At AText u) (is_start 39) _ _ (ap is_start_class single_quote) (refl, h))
-first_goes Div APattern c u h = absurd h
-first_goes RegExp APattern c u (e, h) =
-    at_first RegExp APattern c 47 u e
-    (else_in (At APattern u) (is_start 47) _ _ (ap is_start_class slash) (refl, h))
+first_goes g APattern c u (d, (e, h)) =
+    at_first g APattern c 47 u e
+    (else_in (At APattern u) (is_start 47) _ _ (ap is_start_class slash)
+    (else_in (At APattern u) (is_div g) _ _ d (refl, h)))
 
 slash_comes : (g : Goal) (k : Kind) (c : ℕ) (u : List ℕ) → c ≡ 47 → Rest (behind_slash g) k u → IsKind g k (c ∷ u)
-slash_comes Div k c u e h = mark_whole Div Slash k u (c ∷ u) (ap (λ (x : ℕ). x ∷ u) e) refl h
-slash_comes RegExp k c u e (f, h) = as_kind RegExp k APattern (c ∷ u) f (e, h)
+slash_comes g k c u e h =
+    elim (split (At k u) (is_div g) _ _ h) [
+      | inl (d, r) ↦ mark_whole g Slash k u (c ∷ u) (ap (λ (x : ℕ). x ∷ u) e) d r
+      | inr (d, (f, r)) ↦ as_kind g k APattern (c ∷ u) f (d, (e, r))
+    ]
 
 mark_comes : (g : Goal) (k : Kind) (c : ℕ) (u : List ℕ) (o : Option Punct) → mark c ≡ o → Rest (behind_mark o) k u → IsKind g k (c ∷ u)
 mark_comes g k c u (Some p) e h =

@@ -15,7 +15,6 @@ use Rattle.es5_lexer.specs.Places.{next}
 use Rattle.es5_lexer.specs.Rests.{IsKind, Rest}
 use Rattle.es5_lexer.specs.Reading.{last, comment, leading_trivium, longest_token, token_of, standing, token_at_from, token_at}
 use Rattle.es5_lexer.specs.declared.tokens.Goal.{Goal}
-use Rattle.es5_lexer.specs.declared.tokens.Goal.TheVariants.{Div, RegExp}
 use Rattle.es5_lexer.specs.declared.tokens.Word.{Word}
 use Rattle.es5_lexer.specs.declared.tokens.Punct.{Punct}
 use Rattle.es5_lexer.specs.declared.tokens.Punct.TheVariants.{LeftBrace, RightBrace, LeftParen, RightParen, LeftBracket, RightBracket, Dot, Semicolon, Comma, Less, Greater, LessEqual, GreaterEqual, Equal, NotEqual, SameEqual, NotSame, Plus, Minus, Star, Percent, PlusPlus, MinusMinus, ShiftLeft, ShiftRight, ShiftRightZero, And, Or, Xor, Not, Tilde, AndAnd, OrOr, Question, Colon, Assign, PlusAssign, MinusAssign, StarAssign, PercentAssign, ShiftLeftAssign, ShiftRightAssign, ShiftRightZeroAssign, AndAssign, OrAssign, XorAssign, Slash, SlashAssign}
@@ -43,8 +42,7 @@ pub record OfKind (g : Goal) (t : Token) (u : List ℕ) : Type 0 where
 pub token_kind : (g : Goal) (t : Token) (u : List ℕ) → IsToken g t u → OfKind g t u
 token_kind g TNumber u h = record { kind = ANumber; is = h; gives = refl }
 token_kind g TText u h = record { kind = AText; is = h; gives = refl }
-token_kind Div TPattern u h = absurd h
-token_kind RegExp TPattern u h = record { kind = APattern; is = h; gives = refl }
+token_kind g TPattern u h = record { kind = APattern; is = h; gives = refl }
 token_kind g (TPunct p) u h = record { kind = APunct p; is = h; gives = refl }
 token_kind g Ident u h = record { kind = AName; is = h.0; gives = h.1 }
 token_kind g Get u h = record { kind = AName; is = h.0; gives = h.1 }
@@ -90,8 +88,7 @@ kind_token g AName u h = name_is g (name_token u) u refl (named_by (is_escaped u
 kind_token g (APunct p) u h = h
 kind_token g ANumber u h = h
 kind_token g AText u h = h
-kind_token Div APattern u h = absurd h
-kind_token RegExp APattern u h = h
+kind_token g APattern u h = h
 
 -- a text is of one kind
 
@@ -238,8 +235,7 @@ no_trivium g ANumber c u r (inr (inl (z, h))) f =
 no_trivium g ANumber c u r (inr (inr (e, h))) f = known c 46 (u ++ r) e (at_point (u ++ r))
 no_trivium g AText c u r (inl (e, h)) f = known c 34 (u ++ r) e (at_double (u ++ r))
 no_trivium g AText c u r (inr (e, h)) f = known c 39 (u ++ r) e (at_single (u ++ r))
-no_trivium Div APattern c u r h f = absurd h
-no_trivium RegExp APattern c u r (e, h) f = known c 47 (u ++ r) e (at_slash (u ++ r) (body_no u r h))
+no_trivium g APattern c u r (d, (e, h)) f = known c 47 (u ++ r) e (at_slash (u ++ r) (body_no u r h))
 
 pub stands-no_trivium : (g : Goal) (t : Token) (u r : List ℕ) → Stands g t u r → leading_trivium (u ++ r) ≡ None
 stands-no_trivium g t [] r s = let k = token_kind g t [] s.is in absurd (empty_no_kind g k.kind k.is)

@@ -2,10 +2,10 @@
 -- it. The files on the kinds of tokens say what a token is; this says no more of it.
 use Rattle.std.specs.Prelude.{ℕ, Bool, true, false, ◌&&◌, ◌==◌, if◌then◌else◌, Option, Some, None}
 use Rattle.es5_lexer.specs.Characters.{is_start, is_part, is_line_end, is_digit, is_hex, is_octal, is_escape_of}
+use Rattle.es5_lexer.specs.Suits.{is_div}
 use Rattle.es5_lexer.specs.Numbers.{is_nonzero, is_exponent_mark, is_hex_mark, is_sign}
 use Rattle.es5_lexer.specs.Strings.{quote_of}
 use Rattle.es5_lexer.specs.declared.tokens.Goal.{Goal}
-use Rattle.es5_lexer.specs.declared.tokens.Goal.TheVariants.{Div, RegExp}
 use Rattle.es5_lexer.specs.declared.tokens.Punct.{Punct}
 use Rattle.es5_lexer.specs.declared.tokens.Punct.TheVariants.{LeftBrace, RightBrace, LeftParen, RightParen, LeftBracket, RightBracket, Dot, Semicolon, Comma, Less, Greater, LessEqual, GreaterEqual, Equal, NotEqual, SameEqual, NotSame, Plus, Minus, Star, Percent, PlusPlus, MinusMinus, ShiftLeft, ShiftRight, ShiftRightZero, And, Or, Xor, Not, Tilde, AndAnd, OrOr, Question, Colon, Assign, PlusAssign, MinusAssign, StarAssign, PercentAssign, ShiftLeftAssign, ShiftRightAssign, ShiftRightZeroAssign, AndAssign, OrAssign, XorAssign, Slash, SlashAssign}
 use Rattle.es5_lexer.specs.declared.places.Kind.{Kind}
@@ -104,8 +104,7 @@ behind LaterChar = Name
 behind FlagChar = Pattern Flags
 
 abbrev pub behind_slash : Goal → Place
-behind_slash Div = Mark Slash
-behind_slash RegExp = Pattern BodyStart
+behind_slash g = if is_div g then Mark Slash else Pattern BodyStart
 
 abbrev pub behind_mark : Option Punct → Place
 behind_mark (Some p) = Mark p

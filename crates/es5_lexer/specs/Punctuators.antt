@@ -1,7 +1,7 @@
 -- Punctuators (ECMA-262 5.1, section 7.7).
-use Rattle.std.specs.Prelude.{ℕ, Bool, true, false, List, codes}
+use Rattle.std.specs.Prelude.{ℕ, Bool, true, List, codes}
+use Rattle.es5_lexer.specs.Suits.{is_div}
 use Rattle.es5_lexer.specs.declared.tokens.Goal.{Goal}
-use Rattle.es5_lexer.specs.declared.tokens.Goal.TheVariants.{Div, RegExp}
 use Rattle.es5_lexer.specs.declared.tokens.Punct.{Punct}
 use Rattle.es5_lexer.specs.declared.tokens.Punct.TheVariants.{LeftBrace, RightBrace, LeftParen, RightParen, LeftBracket, RightBracket, Dot, Semicolon, Comma, Less, Greater, LessEqual, GreaterEqual, Equal, NotEqual, SameEqual, NotSame, Plus, Minus, Star, Percent, PlusPlus, MinusMinus, ShiftLeft, ShiftRight, ShiftRightZero, And, Or, Xor, Not, Tilde, AndAnd, OrOr, Question, Colon, Assign, PlusAssign, MinusAssign, StarAssign, PercentAssign, ShiftLeftAssign, ShiftRightAssign, ShiftRightZeroAssign, AndAssign, OrAssign, XorAssign, Slash, SlashAssign}
 
@@ -58,7 +58,6 @@ spelling SlashAssign = codes "/="
 
 -- it may stand under the goal: DivPunctuator (7.7), `/` and `/=`, under division alone
 abbrev pub is_under : Goal → Punct → Bool
-is_under Div p = true
-is_under RegExp Slash = false
-is_under RegExp SlashAssign = false
-is_under RegExp _ = true
+is_under g Slash = is_div g
+is_under g SlashAssign = is_div g
+is_under g _ = true

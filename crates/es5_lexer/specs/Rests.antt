@@ -1,6 +1,7 @@
 -- What may still come at each place in a token of some kind.
-use Rattle.std.specs.Prelude.{◌≡◌, ℕ, true, Some, List, [], ◌∷◌, ◌⊎◌}
+use Rattle.std.specs.Prelude.{◌≡◌, ℕ, true, false, Some, List, [], ◌∷◌, ◌⊎◌}
 use Rattle.es5_lexer.specs.Characters.{is_digit, is_escape_of}
+use Rattle.es5_lexer.specs.Suits.{is_div}
 use Rattle.es5_lexer.specs.Names.{AreParts, AreEscaped, IsName}
 use Rattle.es5_lexer.specs.Punctuators.{spelling, is_under}
 use Rattle.es5_lexer.specs.Numbers.{AreDigits, AreSomeDigits, IsSignedInteger, IsBehindPoint, IsBehindDigit, IsBehindZero, AreHexDigits, AreSomeHexDigits, AreOctalDigits, IsNumber}
@@ -8,7 +9,6 @@ use Rattle.es5_lexer.specs.Strings.{IsStringRest, IsBehindEscape, IsLfThen, IsHe
 use Rattle.es5_lexer.specs.Patterns.{IsBodyRest, IsBehindBackslash, IsClassRest, IsBehindClassBackslash, IsBody, IsPattern}
 use Rattle.es5_lexer.specs.Places.{set_of, longer}
 use Rattle.es5_lexer.specs.declared.tokens.Goal.{Goal}
-use Rattle.es5_lexer.specs.declared.tokens.Goal.TheVariants.{Div, RegExp}
 use Rattle.es5_lexer.specs.declared.tokens.Punct.{Punct}
 use Rattle.es5_lexer.specs.declared.tokens.Punct.TheVariants.{Dot}
 use Rattle.es5_lexer.specs.declared.places.Kind.{Kind}
@@ -35,8 +35,7 @@ IsKind g AName u = IsName u
 IsKind g (APunct p) u = (u ≡ spelling p) × (is_under g p ≡ true)
 IsKind g ANumber u = IsNumber u
 IsKind g AText u = IsString u
-IsKind Div APattern u = ⊥
-IsKind RegExp APattern u = IsPattern u
+IsKind g APattern u = (is_div g ≡ false) × IsPattern u
 
 -- what an escape is a part of
 abbrev pub kind_in : Host → Kind

@@ -1,13 +1,13 @@
 -- The texts of each token, and where one stands (ECMA-262 5.1, section 7).
 use Rattle.std.specs.Prelude.{◌≡◌, ℕ, Bool, true, false, ◌||◌, not, List, [], ◌∷◌, ◌++◌, ◌==◌}
 use Rattle.es5_lexer.specs.Characters.{is_start, is_digit}
+use Rattle.es5_lexer.specs.Suits.{is_div}
 use Rattle.es5_lexer.specs.Names.{IsName, name_token}
 use Rattle.es5_lexer.specs.Punctuators.{spelling, is_under}
 use Rattle.es5_lexer.specs.Numbers.{IsNumber}
 use Rattle.es5_lexer.specs.Strings.{IsString}
 use Rattle.es5_lexer.specs.Patterns.{IsPattern}
 use Rattle.es5_lexer.specs.declared.tokens.Goal.{Goal}
-use Rattle.es5_lexer.specs.declared.tokens.Goal.TheVariants.{Div, RegExp}
 use Rattle.es5_lexer.specs.declared.tokens.Punct.TheVariants.{Slash}
 use Rattle.es5_lexer.specs.declared.tokens.Token.{Token}
 use Rattle.es5_lexer.specs.declared.tokens.Token.TheVariants.{Ident, Get, Set, Word as AWord, EscapedWord, Punct as APunct, Number, Text, Pattern}
@@ -16,8 +16,7 @@ use Rattle.es5_lexer.specs.declared.tokens.Token.TheVariants.{Ident, Get, Set, W
 abbrev pub IsToken : Goal → Token → List ℕ → Type 0
 IsToken g Number u = IsNumber u
 IsToken g Text u = IsString u
-IsToken Div Pattern u = ⊥
-IsToken RegExp Pattern u = IsPattern u
+IsToken g Pattern u = (is_div g ≡ false) × IsPattern u
 IsToken g (APunct p) u = (u ≡ spelling p) × (is_under g p ≡ true)
 IsToken g Ident u = IsName u × (name_token u ≡ Ident)
 IsToken g Get u = IsName u × (name_token u ≡ Get)

@@ -166,9 +166,10 @@ impl Place {
     fn behind_slash(goal: Goal) -> Place
         ensures { result ≡ behind_slash goal }
     {
-        match goal {
-            Goal::Div => Place::Mark(Punct::Slash),
-            Goal::RegExp => Place::Pattern(PatternPlace::BodyStart),
+        if goal.is_div() {
+            Place::Mark(Punct::Slash)
+        } else {
+            Place::Pattern(PatternPlace::BodyStart)
         }
     }
 

@@ -1,4 +1,6 @@
 //! The tokens of scripts (ECMA-262 5.1, section 7), as the grammar tells them apart.
+ghost use Rattle.std.specs.Prelude.{◌≡◌};
+ghost use Rattle.es5_lexer.specs.Suits.{is_div};
 
 /// How a slash that begins no comment is read: the goal symbol of the lexical grammar (section 7).
 #[derive(Clone, Copy, Debug, PartialEq, Eq)]
@@ -7,6 +9,15 @@ pub enum Goal {
     Div,
     /// As the start of a regular expression: InputElementRegExp.
     RegExp,
+}
+
+impl Goal {
+    /// Whether a slash is a division under it.
+    pub(crate) fn is_div(self) -> bool
+        ensures { result ≡ is_div self }
+    {
+        matches!(self, Goal::Div)
+    }
 }
 
 /// A reserved word (section 7.6.1): the keywords, the words kept for the future, and the literals.
@@ -104,9 +115,10 @@ pub enum Punct {
 }
 
 /// What a token is.
-#[derive(Clone, Copy, Debug, PartialEq, Eq)]
+#[derive(Clone, Copy, Debug, Default, PartialEq, Eq)]
 pub enum Token {
     /// An identifier (section 7.6) other than `get` and `set`.
+    #[default]
     Ident,
     /// The identifier `get`, written without escapes.
     Get,
@@ -127,7 +139,7 @@ pub enum Token {
 }
 
 /// A token and what stands before it.
-#[derive(Clone, Copy, Debug, PartialEq, Eq)]
+#[derive(Clone, Copy, Debug, Default, PartialEq, Eq)]
 pub struct Lexeme {
     /// What the token is.
     pub token: Token,
