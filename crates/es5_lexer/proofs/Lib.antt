@@ -12,3 +12,7 @@ pub mod PassLemmas
 pub mod NextLemmas
 pub mod LawLemmas
 pub mod EitherLemmas
+pub mod OpenLemmas
+pub mod StepLemmas
+pub mod TokenSteps
+pub mod SlashLemmas

@@ -155,7 +155,7 @@ mark_goes p k c u (inr (dot, d, e, h)) =
     (subst (λ (o : Option Punct). Rest (next_by o Dot c) k u) (sym (choice None (c == 61)))
     (then_in (At k u) (is_digit c) _ _ d (e, h)))
 
-dot_is : (p : Punct) → is_dot p ≡ true → p ≡ Dot
+pub dot_is : (p : Punct) → is_dot p ≡ true → p ≡ Dot
 dot_is Dot h = refl
 dot_is _ h = absurd cc
 
@@ -485,7 +485,7 @@ number_ends HexMark k e h = absurd h
 number_ends HexDigit k e h = ap Some (sym e)
 number_ends OctalDigit k e h = ap Some (sym e)
 
-escape_open : (host : Host) (seen : Seen) → EscapeRest host seen [] → ⊥
+pub escape_open : (host : Host) (seen : Seen) → EscapeRest host seen [] → ⊥
 escape_open host EscapeMark h = h
 escape_open host EscapeLetter h = h
 escape_open host (OneDigit a) h = h

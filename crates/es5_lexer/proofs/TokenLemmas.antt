@@ -10,7 +10,7 @@ use Rattle.es5_lexer.specs.Names.{IsName, spelled, is_escaped, word_of, token_by
 use Rattle.es5_lexer.specs.Punctuators.{spelling}
 use Rattle.es5_lexer.specs.Numbers.{is_nonzero}
 use Rattle.es5_lexer.specs.Patterns.{IsBody}
-use Rattle.es5_lexer.specs.Tokens.{IsToken, may_precede, Stands}
+use Rattle.es5_lexer.specs.Tokens.{IsToken, is_barred, may_precede, Stands}
 use Rattle.es5_lexer.specs.Places.{next}
 use Rattle.es5_lexer.specs.Rests.{IsKind, Rest}
 use Rattle.es5_lexer.specs.Reading.{last, comment, leading_trivium, longest_token, token_of, standing, token_at_from, token_at}
@@ -70,6 +70,22 @@ named_by false (Some w) v = refl
 named_by true (Some w) v = refl
 named_by false None v = ident_named (bytes_eq (codes "get") v) (bytes_eq (codes "set") v)
 named_by true None v = refl
+
+named_unbarred : (t : Token) (c : ℕ) → is_named t ≡ true → false ≡ is_barred t c
+unfolding is_named
+named_unbarred Ident c h = refl
+named_unbarred Get c h = refl
+named_unbarred Set c h = refl
+named_unbarred (AWord w) c h = refl
+named_unbarred EscapedWord c h = refl
+named_unbarred TNumber c h = absurd cc
+named_unbarred TText c h = absurd cc
+named_unbarred TPattern c h = absurd cc
+named_unbarred (TPunct p) c h = absurd cc
+
+-- no character is barred behind a name
+pub name_unbarred : (u : List ℕ) (c : ℕ) → false ≡ is_barred (name_token u) c
+name_unbarred u c = named_unbarred (name_token u) c (named_by (is_escaped u) (word_of (spelled u)) (spelled u))
 
 name_is : (g : Goal) (t : Token) (u : List ℕ) → name_token u ≡ t → is_named t ≡ true → IsName u → IsToken g t u
 unfolding is_named
@@ -221,7 +237,7 @@ body_no (c ∷ u) r (inl (p, h)) =
 body_no (c ∷ u) r (inr (inl (e, h))) = subst (λ (x : ℕ). comment (x ∷ (u ++ r)) ≡ None) (sym e) refl
 body_no (c ∷ u) r (inr (inr (e, h))) = subst (λ (x : ℕ). comment (x ∷ (u ++ r)) ≡ None) (sym e) refl
 
-no_trivium : (g : Goal) (k : Kind) (c : ℕ) (u r : List ℕ) → IsKind g k (c ∷ u) → may_precede (token_of k (c ∷ u)) r ≡ true → leading_trivium (c ∷ (u ++ r)) ≡ None
+pub no_trivium : (g : Goal) (k : Kind) (c : ℕ) (u r : List ℕ) → IsKind g k (c ∷ u) → may_precede (token_of k (c ∷ u)) r ≡ true → leading_trivium (c ∷ (u ++ r)) ≡ None
 no_trivium g AName c u r (inl (s, h)) f =
     let b = start-no_blank c s in
     other c (u ++ r) (or_left (is_line_end c) (is_space c) b) (or_right (is_line_end c) (is_space c) b) (start_no_slash c (c == 47) refl s)

@@ -66,7 +66,7 @@ line_found (c ∷ q) rest h e =
 
 -- a comment of several lines
 
-ended_in-more : (ended : Bool) (c : ℕ) (u : List ℕ) → ended_in (ended_by ended c) u ≡ ended_in ended (c ∷ u)
+pub ended_in-more : (ended : Bool) (c : ℕ) (u : List ℕ) → ended_in (ended_by ended c) u ≡ ended_in ended (c ∷ u)
 ended_in-more ended c u = same (is_line_end c) (list_any is_line_end u)
   where
     same : (a b : Bool) → (if b then true else if a then true else ended) ≡ (if a || b then true else ended)
@@ -76,7 +76,7 @@ ended_in-more ended c u = same (is_line_end c) (list_any is_line_end u)
     same false false = refl
 
 -- a slash ends no line
-ended_in-slash : (ended : Bool) → ended_in ended (47 ∷ []) ≡ ended
+pub ended_in-slash : (ended : Bool) → ended_in ended (47 ∷ []) ≡ ended
 ended_in-slash ended = else_in (λ (b : Bool). b ≡ ended) (is_line_end 47 || false) _ _ (off (is_line_end 47) (ap is_line_end_class slash)) refl
   where
     off : (a : Bool) → a ≡ false → (a || false) ≡ false
@@ -204,11 +204,11 @@ comment_is g c (d ∷ u) t e f =
       ]
     ]
 
-blank_by : (a b : Bool) → a ≡ true → (a || b) ≡ true
+pub blank_by : (a b : Bool) → a ≡ true → (a || b) ≡ true
 blank_by true b h = refl
 blank_by false b h = absurd cc
 
-blank_or : (a b : Bool) → b ≡ true → (a || b) ≡ true
+pub blank_or : (a b : Bool) → b ≡ true → (a || b) ≡ true
 blank_or true b h = refl
 blank_or false b h = h
 

@@ -13,3 +13,4 @@ pub mod Places
 pub mod Rests
 pub mod Spelling
 pub mod Reading
+pub mod Residuals

@@ -239,6 +239,12 @@ ended (Text q place) = ended_text place
 ended (Pattern place) = ended_pattern place
 ended Dead = None
 
+-- the token before an escape that doesn't go on
+abbrev pub before_escape : Place → Option Kind
+before_escape (Escape LaterChar seen) = Some AName
+before_escape (Escape FlagChar seen) = Some APattern
+before_escape _ = None
+
 -- no token begins so
 abbrev pub is_dead : Place → Bool
 is_dead Dead = true

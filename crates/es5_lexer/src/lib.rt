@@ -14,6 +14,7 @@ mod names;
 mod next;
 mod places;
 mod slices;
+mod states;
 #[cfg(test)]
 mod tests;
 mod tokens;

@@ -4,10 +4,12 @@
 //! may come next; [`Place::next`] goes on by one character, and [`Place::ended`] says what token ends
 //! here. Each place keeps at most three characters: those of an escape whose class isn't known yet.
 //! Which word a name is, is asked of its text once it has ended.
-ghost use Rattle.std.specs.Prelude.{◌≡◌};
+ghost use Rattle.std.specs.Prelude.{◌≡◌, ℕ, List};
+ghost use Rattle.es5_lexer.specs.Tokens.{is_barred};
+ghost use Rattle.es5_lexer.specs.Reading.{token_of};
 ghost use Rattle.es5_lexer.specs.Characters.{is_escape_of};
 ghost use Rattle.es5_lexer.specs.Strings.{quote_of};
-ghost use Rattle.es5_lexer.specs.Places.{set_of, is_dead, ended, first, behind_slash, behind_mark, behind};
+ghost use Rattle.es5_lexer.specs.Places.{set_of, is_dead, ended, before_escape, first, behind_slash, behind_mark, behind};
 ghost use Rattle.es5_lexer.specs.Places.{next, next_in_parts, next_in_escape, next_in_mark};
 ghost use Rattle.es5_lexer.specs.Places.{next_in_number, next_in_whole, next_in_exponent};
 ghost use Rattle.es5_lexer.specs.Places.{next_in_text, next_in_chars, behind_text_escape, fewer};
@@ -163,7 +165,7 @@ impl Place {
     }
 
     /// Behind a slash that begins a token.
-    fn behind_slash(goal: Goal) -> Place
+    pub(crate) fn behind_slash(goal: Goal) -> Place
         ensures { result ≡ behind_slash goal }
     {
         if goal.is_div() {
@@ -213,11 +215,39 @@ impl Place {
         }
     }
 
+    /// The token before an escape that doesn't go on, if one stands there.
+    pub(crate) fn before_escape(self) -> Option<Kind>
+        ensures { result ≡ before_escape self }
+    {
+        match self {
+            Place::Escape(Host::LaterChar, _) => Some(Kind::Name),
+            Place::Escape(Host::FlagChar, _) => Some(Kind::Pattern),
+            _ => None,
+        }
+    }
+
     /// Whether no token begins so.
     pub(crate) fn is_dead(self) -> bool
         ensures { result ≡ is_dead self }
     {
         matches!(self, Place::Dead)
+    }
+}
+
+impl Kind {
+    /// Whether the character may not stand behind a token of the kind.
+    #[tactic(auto, using(crate::proofs::TokenLemmas::name_unbarred))]
+    pub(crate) fn bars(self, c: char) -> bool
+        ensures { (u : List ℕ) → result ≡ is_barred (token_of self u) c }
+    {
+        match self {
+            Kind::Name => false,
+            Kind::Number => is_digit(c) || is_start(c) || c == '\\',
+            Kind::Punct(Punct::Slash) => matches!(c, '/' | '*'),
+            Kind::Punct(_) => false,
+            Kind::Text => false,
+            Kind::Pattern => false,
+        }
     }
 }
 

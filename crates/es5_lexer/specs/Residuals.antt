@@ -1,0 +1,118 @@
+-- What may still come from each state of a lexer that is fed characters: its residual. A text goes on
+-- from a state exactly where the characters fed and then that text have tokens.
+use Rattle.std.specs.Prelude.{◌≡◌, ℕ, Bool, true, false, if◌then◌else◌, Option, Some, None, List, [], ◌∷◌, ◌++◌, ◌⊎◌}
+use Rattle.es5_lexer.specs.Trivia.{is_line_comment, EndsLine, IsCommentRest}
+use Rattle.es5_lexer.specs.Tokens.{may_precede}
+use Rattle.es5_lexer.specs.Texts.{Mark, mark, chars, ended_in, LexesFrom}
+use Rattle.es5_lexer.specs.Places.{first, next, ended, is_dead, behind_slash}
+use Rattle.es5_lexer.specs.Rests.{Rest}
+use Rattle.es5_lexer.specs.Reading.{token_of}
+use Rattle.es5_lexer.specs.declared.tokens.Goal.{Goal}
+use Rattle.es5_lexer.specs.declared.tokens.Lexeme.{Lexeme}
+use Rattle.es5_lexer.specs.declared.places.Kind.{Kind}
+use Rattle.es5_lexer.specs.declared.places.Place.{Place}
+use Rattle.es5_lexer.specs.declared.states.State.{State}
+use Rattle.es5_lexer.specs.declared.states.State.TheVariants.{Start, Slash, LineComment, BlockComment, Token}
+
+-- the characters of a token, the last one first, before those that follow them
+abbrev pub onto : List ℕ → List ℕ → List ℕ
+onto [] u = u
+onto (c ∷ read) u = onto read (c ∷ u)
+
+-- in a token: the rest of it, and then a text with tokens
+pub record TokenFrom (place : Place) (read : List ℕ) (newline : Bool) (w : List Mark) (end : Goal) (tokens : List Lexeme) : Type 0 where
+  pub kind : Kind
+  pub before : List Mark
+  pub after : List Mark
+  pub others : List Lexeme
+  pub spells : w ≡ before ++ after
+  pub completes : Rest place kind (chars before)
+  pub longest : (a b : List ℕ) (k : Kind) → chars after ≡ a ++ b → Rest place k (chars before ++ a) → a ≡ []
+  pub free : may_precede (token_of kind (onto read (chars before))) (chars after) ≡ true
+  pub further : LexesFrom false after end others
+  pub gives : tokens ≡ record { token = token_of kind (onto read (chars before)); newline = newline } ∷ others
+
+-- in a comment of one line
+pub record LineFrom (newline : Bool) (w : List Mark) (end : Goal) (tokens : List Lexeme) : Type 0 where
+  pub comment : List Mark
+  pub after : List Mark
+  pub spells : w ≡ comment ++ after
+  pub is : is_line_comment (chars comment) ≡ true
+  pub ends : EndsLine (chars after)
+  pub further : LexesFrom newline after end tokens
+
+-- in a comment of several lines, behind a `*` or not
+pub record BlockFrom (star newline : Bool) (w : List Mark) (end : Goal) (tokens : List Lexeme) : Type 0 where
+  pub comment : List Mark
+  pub after : List Mark
+  pub spells : w ≡ comment ++ after
+  pub is : IsCommentRest star (chars comment)
+  pub further : LexesFrom (ended_in newline (chars comment)) after end tokens
+
+-- the residual of a state: the slash that is kept comes first again
+abbrev pub From : State → List ℕ → Bool → List Mark → Goal → List Lexeme → Type 0
+From Start read newline w end tokens = LexesFrom newline w end tokens
+From Slash read newline w end tokens = (g : Goal) × LexesFrom newline (mark g 47 ∷ w) end tokens
+From LineComment read newline w end tokens = LineFrom newline w end tokens
+From (BlockComment star) read newline w end tokens = BlockFrom star newline w end tokens
+From (Token place) read newline w end tokens = TokenFrom place read newline w end tokens
+
+-- the text goes on from the state, and has these tokens with those that were given
+pub record GoesOn (s : State) (read : List ℕ) (newline : Bool) (given : List Lexeme) (w : List Mark) (end : Goal) (tokens : List Lexeme) : Type 0 where
+  pub others : List Lexeme
+  pub is : tokens ≡ given ++ others
+  pub from : From s read newline w end others
+
+-- the characters of the token at hand in a state
+abbrev pub own : State → List ℕ → List ℕ
+own Slash read = 47 ∷ []
+own (Token place) read = read
+own _ read = []
+
+-- the same behind a character, where a token has ended before it or none has
+abbrev pub own_after : Option Kind → List ℕ → ℕ → List ℕ
+own_after None read c = c ∷ read
+own_after (Some k) read c = c ∷ []
+
+-- the token that has ended
+abbrev pub given_by : Option Kind → List ℕ → Bool → List Lexeme
+given_by None read newline = []
+given_by (Some k) read newline = record { token = token_of k (onto read []); newline = newline } ∷ []
+
+-- a character leads from a state to a state: what goes on from the first by it goes on from the second
+pub record Steps (s : State) (read : List ℕ) (newline : Bool) (g : Goal) (c : ℕ) (given : Option Kind) (t : State) (flag : Bool) : Type 0 where
+  pub goes : (w : List Mark) (end : Goal) (tokens : List Lexeme) → From s (own s read) newline (mark g c ∷ w) end tokens → GoesOn t (own_after given (own s read) c) flag (given_by given (own s read) newline) w end tokens
+  pub comes : (w : List Mark) (end : Goal) (tokens : List Lexeme) → GoesOn t (own_after given (own s read) c) flag (given_by given (own s read) newline) w end tokens → From s (own s read) newline (mark g c ∷ w) end tokens
+
+-- the end of the text in a state: whether it has tokens, and the last of them
+pub record Ends (s : State) (read : List ℕ) (newline : Bool) (g : Goal) (whole : Bool) (given : Option Kind) : Type 0 where
+  pub goes : (tokens : List Lexeme) → From s (own s read) newline [] g tokens → (whole ≡ true) × (tokens ≡ given_by given (own s read) newline)
+  pub comes : whole ≡ true → From s (own s read) newline [] g (given_by given (own s read) newline)
+
+-- the places that a character leads to, and the token that has ended before it
+abbrev pub LeadsFrom : Place → Goal → ℕ → Option Kind → State → Type 0
+LeadsFrom p g c None (Token q) = (q ≡ next p c) ⊎ (is_dead q ≡ true)
+LeadsFrom p g c None t = Unit {0}
+LeadsFrom p g c (Some k) (Token q) = ((ended p ≡ Some k) × (q ≡ first g c)) ⊎ (is_dead q ≡ true)
+LeadsFrom p g c (Some k) t = ended p ≡ Some k
+
+abbrev pub LeadsBetween : Goal → ℕ → Option Kind → State → Type 0
+LeadsBetween g c None (Token q) = q ≡ first g c
+LeadsBetween g c None t = Unit {0}
+LeadsBetween g c (Some k) t = ⊥
+
+abbrev pub Leads : State → Goal → ℕ → Option Kind → State → Type 0
+Leads (Token p) g c given t = LeadsFrom p g c given t
+Leads Slash g c given t = LeadsFrom (behind_slash g) g c given t
+Leads _ g c given t = LeadsBetween g c given t
+
+-- the token that ends with the text
+abbrev pub EndsAs : State → Goal → Bool → Option Kind → Type 0
+EndsAs (Token p) g whole given = whole ≡ true → given ≡ ended p
+EndsAs Slash g whole given = whole ≡ true → given ≡ ended (behind_slash g)
+EndsAs _ g whole given = given ≡ None
+
+-- no text goes on from the state
+abbrev pub is_dead_state : State → Bool
+is_dead_state (Token p) = is_dead p
+is_dead_state _ = false
