@@ -16,3 +16,5 @@ pub mod OpenLemmas
 pub mod StepLemmas
 pub mod TokenSteps
 pub mod SlashLemmas
+pub mod LetterLemmas
+pub mod LexerLemmas

@@ -65,7 +65,7 @@ parts_come host k c u same h =
 
 -- the digits of an escape, one by one
 
-letter_one : (host : Host) (a : ℕ) (u : List ℕ) → LetterRest host (a ∷ u) → (is_hex a ≡ true) × OneRest host a u
+pub letter_one : (host : Host) (a : ℕ) (u : List ℕ) → LetterRest host (a ∷ u) → (is_hex a ≡ true) × OneRest host a u
 letter_one host a [] h = absurd h
 letter_one host a (b ∷ []) h = absurd h
 letter_one host a (b ∷ c ∷ []) h = absurd h
@@ -78,7 +78,7 @@ one_letter host a (b ∷ []) h = absurd h
 one_letter host a (b ∷ c ∷ []) h = absurd h
 one_letter host a (b ∷ c ∷ d ∷ u) h = h
 
-one_two : (host : Host) (a b : ℕ) (u : List ℕ) → OneRest host a (b ∷ u) → (is_hex b ≡ true) × TwoRest host a b u
+pub one_two : (host : Host) (a b : ℕ) (u : List ℕ) → OneRest host a (b ∷ u) → (is_hex b ≡ true) × TwoRest host a b u
 one_two host a b [] h = absurd h
 one_two host a b (c ∷ []) h = absurd h
 one_two host a b (c ∷ d ∷ u) h =
@@ -89,7 +89,7 @@ two_one host a b [] h = absurd h
 two_one host a b (c ∷ []) h = absurd h
 two_one host a b (c ∷ d ∷ u) h = h
 
-two_three : (host : Host) (a b c : ℕ) (u : List ℕ) → TwoRest host a b (c ∷ u) → (is_hex c ≡ true) × ThreeRest host a b c u
+pub two_three : (host : Host) (a b c : ℕ) (u : List ℕ) → TwoRest host a b (c ∷ u) → (is_hex c ≡ true) × ThreeRest host a b c u
 two_three host a b c [] h = absurd h
 two_three host a b c (d ∷ u) h =
     (and_left (is_hex c) (is_hex d) (and_right (is_hex a && is_hex b) (is_hex c && is_hex d) (and_left _ _ h.0)), h)
@@ -98,7 +98,7 @@ three_two : (host : Host) (a b c : ℕ) (u : List ℕ) → ThreeRest host a b c 
 three_two host a b c [] h = absurd h
 three_two host a b c (d ∷ u) h = h
 
-mark_letter : (host : Host) (x : ℕ) (u : List ℕ) → AreEscaped (set_of host) (x ∷ u) → (x ≡ 117) × LetterRest host u
+pub mark_letter : (host : Host) (x : ℕ) (u : List ℕ) → AreEscaped (set_of host) (x ∷ u) → (x ≡ 117) × LetterRest host u
 mark_letter host x [] h = absurd h
 mark_letter host x (a ∷ []) h = absurd h
 mark_letter host x (a ∷ b ∷ []) h = absurd h

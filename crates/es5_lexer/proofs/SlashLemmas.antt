@@ -29,7 +29,7 @@ use Rattle.es5_lexer.proofs.TriviaLemmas.{chars-append}
 use Rattle.es5_lexer.proofs.OpenLemmas.{Opened, a_blank, a_line, a_block, a_token, opened, line_first, block_first, token_first, slash_no_blank}
 use Rattle.es5_lexer.proofs.StepLemmas.{quiet}
 
-first_slash : (g : Goal) → first g 47 ≡ behind_slash g
+pub first_slash : (g : Goal) → first g 47 ≡ behind_slash g
 first_slash g = else_in (λ (x : Place). x ≡ behind_slash g) (is_start 47) _ _ (ap is_start_class slash) refl
 
 -- behind a slash that begins a token stands none that makes it begin a comment
@@ -129,7 +129,7 @@ slash_token_step read f g c given t flag l b h = record {
 
 -- ends
 
-nothing : (a b : List Mark) → [] ≡ a ++ b → (a ≡ []) × (b ≡ [])
+pub nothing : (a b : List Mark) → [] ≡ a ++ b → (a ≡ []) × (b ≡ [])
 nothing [] b e = (refl, sym e)
 nothing (m ∷ a) b e = absurd cc
 

@@ -14,3 +14,5 @@ pub mod Rests
 pub mod Spelling
 pub mod Reading
 pub mod Residuals
+pub mod Letters
+pub mod Lexing

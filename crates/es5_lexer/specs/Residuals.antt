@@ -11,6 +11,7 @@ use Rattle.es5_lexer.specs.declared.tokens.Goal.{Goal}
 use Rattle.es5_lexer.specs.declared.tokens.Lexeme.{Lexeme}
 use Rattle.es5_lexer.specs.declared.places.Kind.{Kind}
 use Rattle.es5_lexer.specs.declared.places.Place.{Place}
+use Rattle.es5_lexer.specs.declared.places.Place.TheVariants.{Name, Escape}
 use Rattle.es5_lexer.specs.declared.states.State.{State}
 use Rattle.es5_lexer.specs.declared.states.State.TheVariants.{Start, Slash, LineComment, BlockComment, Token}
 
@@ -116,3 +117,13 @@ EndsAs _ g whole given = given ≡ None
 abbrev pub is_dead_state : State → Bool
 is_dead_state (Token p) = is_dead p
 is_dead_state _ = false
+
+-- a name stands at the state, or what may become one
+abbrev pub is_name_place : Place → Bool
+is_name_place Name = true
+is_name_place (Escape host seen) = true
+is_name_place _ = false
+
+abbrev pub is_in_name : State → Bool
+is_in_name (Token p) = is_name_place p
+is_in_name _ = false

@@ -8,6 +8,8 @@
 
 mod characters;
 mod laws;
+mod letters;
+mod lexer;
 mod longest;
 mod marks;
 mod names;
@@ -20,6 +22,7 @@ mod tests;
 mod tokens;
 mod trivia;
 
+pub use lexer::Lexer;
 pub use laws::{either_reading, one_list_of_tokens, one_next_token};
 pub use next::{next_token, rest_is_trivia};
 pub use tokens::{Goal, Lexeme, Punct, Token, Word};

@@ -2,6 +2,7 @@
 ghost use Rattle.std.specs.Prelude.{◌≡◌, ◌<◌, bytes_eq, codes, length, map};
 ghost use Rattle.es5_lexer.specs.Names.{spelled, is_escaped, word_of, word_in, ident_of, token_by, name_token};
 ghost use Rattle.es5_lexer.specs.Spelling.{first_spelled, first_escaped};
+ghost use Rattle.es5_lexer.specs.Letters.{token_of_letters};
 
 use crate::characters::escaped;
 use crate::slices::last;
@@ -46,6 +47,51 @@ const RESERVED: [(&[u8], Word); 36] = [
     (b"true", Word::True),
     (b"false", Word::False),
 ];
+
+/// The token of a name of these letters, written with an escape or without one.
+pub(crate) fn name_of_letters(escapes: bool, letters: &[u8]) -> Token
+    ensures { result ≡ token_of_letters escapes letters.now }
+{
+    match word_of_letters(letters) {
+        Some(_) if escapes => Token::EscapedWord,
+        Some(word) => Token::Word(word),
+        None if escapes => Token::Ident,
+        None => identifier_of_letters(letters),
+    }
+}
+
+/// The token of a name of these letters that is written without escapes and is no reserved word.
+fn identifier_of_letters(letters: &[u8]) -> Token
+    ensures { result ≡ ident_of letters.now }
+{
+    if letters == b"get".as_slice() {
+        Token::Get
+    } else if letters == b"set".as_slice() {
+        Token::Set
+    } else {
+        Token::Ident
+    }
+}
+
+/// The reserved word of these letters.
+#[tactic(auto, unfolding(crate::specs::Names::reserved_words))]
+fn word_of_letters(letters: &[u8]) -> Option<Word>
+    ensures { result ≡ word_of letters.now }
+{
+    word_in(&RESERVED, letters)
+}
+
+/// The first of the words that has these letters.
+fn word_in(words: &[(&[u8], Word)], letters: &[u8]) -> Option<Word>
+    ensures { result ≡ word_in (map (λ w. (w.0.now, w.1)) words.now) letters.now }
+{
+    for (spelling, word) in words {
+        if *spelling == letters {
+            return Some(*word);
+        }
+    }
+    None
+}
 
 /// A character of a name.
 #[derive(Clone, Copy)]

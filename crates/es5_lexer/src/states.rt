@@ -6,7 +6,7 @@
 ghost use Rattle.std.specs.Prelude.{◌≡◌, ℕ, List, ◌==◌, ◌&&◌, Bool, true, false, is_some};
 ghost use Rattle.es5_lexer.specs.Texts.{ended_by};
 ghost use Rattle.es5_lexer.specs.Places.{ended, is_dead, next};
-ghost use Rattle.es5_lexer.specs.Residuals.{Steps, Ends, EndsAs, Leads, is_dead_state};
+ghost use Rattle.es5_lexer.specs.Residuals.{Steps, Ends, EndsAs, Leads, is_in_name, is_dead_state};
 
 use crate::characters::{is_line_end, is_space};
 use crate::places::{Kind, Place};
@@ -72,6 +72,13 @@ impl State {
             State::Slash => end_of_token(Place::behind_slash(goal)),
             State::Token(place) => end_of_token(place),
         }
+    }
+
+    /// Whether a name stands here, or what may become one.
+    pub(crate) fn is_in_name(self) -> bool
+        ensures { result ≡ is_in_name self }
+    {
+        matches!(self, State::Token(Place::Name | Place::Escape(_, _)))
     }
 
     /// Whether no text goes on from here.

@@ -1,0 +1,100 @@
+//! Tokens of a text that comes in pieces (ECMA-262 5.1, section 7).
+//!
+//! A [`Lexer`] is fed one character after another, each with the goal that the grammar of programs has
+//! then, and gives each token once the character behind it has come. It is of a fixed size: the state
+//! (`states`) has its place in a token, and of a name eleven letters are kept (`letters`).
+ghost use Rattle.std.specs.Prelude.{◌≡◌, ℕ, List, [], ◌∷◌, ◌++◌, IsTrue, ◌↔◌};
+ghost use Rattle.es5_lexer.specs.Texts.{Mark, mark, Lexes};
+ghost use Rattle.es5_lexer.specs.Suits.{Suits};
+ghost use Rattle.es5_lexer.specs.Begins.{Begins};
+ghost use Rattle.es5_lexer.specs.Lexing.{HasRead};
+ghost use Rattle.es5_lexer.specs.Letters.{token_of_kind, given_lexemes};
+ghost use Rattle.es5_lexer.specs.declared.tokens.Goal.{Goal};
+ghost use Rattle.es5_lexer.specs.declared.tokens.Lexeme.{Lexeme};
+
+use crate::letters::Letters;
+use crate::places::Kind;
+use crate::states::{State, Step};
+use crate::tokens::{Goal, Lexeme, Token};
+use arrayvec::ArrayVec;
+
+/// Reads a text a character at a time.
+#[derive(Drop)]
+pub struct Lexer {
+    state: State,
+    /// Whether a line has ended since the last token.
+    newline: bool,
+    /// Of the name at hand, if one is.
+    letters: Letters,
+}
+
+impl Lexer {
+    /// Before the first character.
+    pub fn new() -> Lexer
+        ensures { HasRead result [] [] }
+    {
+        Lexer {
+            state: State::Start,
+            newline: false,
+            letters: Letters::new(),
+        }
+    }
+
+    /// Reads one character more, and appends to `out` the token that has ended before it, if one has. A
+    /// slash is kept until the next character, whose goal says how it is read; no other goal counts.
+    pub fn feed_char(&mut self, goal: Goal, c: char, out: &mut ArrayVec<Lexeme, 2>)
+        requires { out.old.items ≡ [] }
+        ensures reads { (m : List Mark) (given : List Lexeme) → HasRead self.old m given → HasRead self.new (m ++ mark goal c ∷ []) (given ++ out.new.items) }
+        ensures asks { (m : List Mark) (given : List Lexeme) → HasRead self.old m given → (other : Goal) (w : List Mark) (end : Goal) (tokens : List Lexeme) → Lexes (m ++ mark other c ∷ w) end tokens → Suits given goal tokens → Lexes (m ++ mark goal c ∷ w) end tokens }
+    {
+        let before = self.state;
+        let Step {
+            given,
+            state,
+            newline,
+        } = before.step(self.newline, goal, c);
+        self.give(given, out);
+        self.letters.follow(before, given, state, c);
+        self.state = state;
+        self.newline = newline;
+    }
+
+    /// Whether the text may end here, and appends to `out` the last token, if it ends here: a slash that is
+    /// kept is read by the goal.
+    pub fn finish(&self, goal: Goal, out: &mut ArrayVec<Lexeme, 2>) -> bool
+        requires { out.old.items ≡ [] }
+        ensures gives { (m : List Mark) (given : List Lexeme) → HasRead self.now m given → IsTrue result → Lexes m goal (given ++ out.new.items) }
+        ensures exact { (m : List Mark) (given tokens : List Lexeme) → HasRead self.now m given → Lexes m goal tokens → IsTrue result × (tokens ≡ given ++ out.new.items) }
+        ensures asks { (m : List Mark) (given : List Lexeme) → HasRead self.now m given → (other : Goal) (tokens : List Lexeme) → Lexes m other tokens → Suits given goal tokens → Lexes m goal tokens }
+    {
+        let (whole, given) = self.state.end(goal);
+        self.give(given, out);
+        whole
+    }
+
+    /// Appends a token that has ended.
+    fn give(&self, kind: Option<Kind>, out: &mut ArrayVec<Lexeme, 2>)
+        requires { out.old.items ≡ [] }
+        ensures { out.new.items ≡ given_lexemes self.now.letters kind self.now.newline }
+    {
+        if let Some(kind) = kind {
+            out.push(Lexeme {
+                token: self.token_of(kind),
+                newline: self.newline,
+            });
+        }
+    }
+
+    /// The token of the kind, a name by its letters.
+    fn token_of(&self, kind: Kind) -> Token
+        ensures { result ≡ token_of_kind self.now.letters kind }
+    {
+        match kind {
+            Kind::Name => self.letters.token(),
+            Kind::Punct(p) => Token::Punct(p),
+            Kind::Number => Token::Number,
+            Kind::Text => Token::Text,
+            Kind::Pattern => Token::Pattern,
+        }
+    }
+}
