@@ -2,11 +2,11 @@
 use Rattle.std.proofs.Common.{◌≡◌, ℕ, zero, suc, ◌+◌, ◌≤◌, Bool, true, false, ◌&&◌, ◌||◌, ◌==◌, nat_lt, nat_eq, bytes_eq, codes, if◌then◌else◌, is_some, Option, Some, None, List, [], ◌∷◌, ◌++◌, length, map, take, ◌⊎◌, inl, inr, refl, sym, ap, subst, ◌∙◌, append_assoc, arith}
 use Rattle.std.proofs.lemmas.List.{take-append-le}
 use Rattle.std.proofs.lemmas.Bool.Decides.{nat_tests}
-use Rattle.es5_lexer.specs.Characters.{is_part, is_start, is_hex, escaped, is_escape_of, is_part_class, is_start_class}
+use Rattle.es5_lexer.specs.Characters.{is_line_end, is_part, is_start, is_hex, escaped, is_escape_of, is_part_class, is_start_class}
 use Rattle.es5_lexer.specs.Names.{AreParts, spelled, spelled_escape, spelled_with, is_escaped, reserved_words, word_in, word_of, ident_of, token_by, name_token}
 use Rattle.es5_lexer.specs.Places.{set_of, first, next, ended, is_dead, behind, behind_slash}
 use Rattle.es5_lexer.specs.Rests.{IsKind, kind_in, EscapeRest, MarkRest, Rest}
-use Rattle.es5_lexer.specs.Residuals.{onto, own, own_after, Leads, LeadsFrom, LeadsBetween, is_name_place, is_in_name}
+use Rattle.es5_lexer.specs.Residuals.{onto, own, own_after, Leads, LeadsFrom, LeadsStart, is_dead_state, is_name_place, is_in_name}
 use Rattle.es5_lexer.specs.Letters.{kept_letter, kept, with_letter, letter, ends_escape, token_of_letters, behind_seen, spelled_from, escaped_from, Spells, Hears, HeardAt}
 use Rattle.es5_lexer.specs.declared.tokens.Goal.{Goal}
 use Rattle.es5_lexer.specs.declared.tokens.Word.{Word}
@@ -309,14 +309,18 @@ pub record Reads (old new : Letters) (s : Place) (c : ℕ) : Type 0 where
   pub letters : new.letters.items ≡ with_letter old.letters.items (letter s c)
   pub escapes : new.escapes ≡ (old.escapes || ends_escape s)
 
+-- where no token begins none is heard
+heard_dead : (l : Letters) (t : State) (read : List ℕ) → is_dead_state t ≡ true → HeardAt l t read
+heard_dead l (Token p) read e = λ u r. absurd (dead_no_name p u e r)
+heard_dead l Start read e = tt
+heard_dead l Slash read e = tt
+heard_dead l LineComment read e = tt
+heard_dead l (BlockComment star) read e = tt
+
 follow_on : (old new : Letters) (s : Place) (g : Goal) (c : ℕ) (t : State) (read : List ℕ) → Reads old new s c → LeadsFrom s g c None t → Hears old.letters.items old.escapes s read → HeardAt new t (c ∷ read)
-follow_on old new s g c (Token q) read x (inl e) h =
-    subst (λ (p : Place). Hears new.letters.items new.escapes p (c ∷ read)) (sym e) (goes_on old.letters.items old.escapes s read c new.letters.items new.escapes x.letters x.escapes h)
-follow_on old new s g c (Token q) read x (inr d) h = λ u r. absurd (dead_no_name q u d r)
-follow_on old new s g c Start read x e h = tt
-follow_on old new s g c Slash read x e h = tt
-follow_on old new s g c LineComment read x e h = tt
-follow_on old new s g c (BlockComment star) read x e h = tt
+follow_on old new s g c t read x (inl e) h =
+    subst (λ (u : State). HeardAt new u (c ∷ read)) (sym e.0) (goes_on old.letters.items old.escapes s read c new.letters.items new.escapes x.letters x.escapes h)
+follow_on old new s g c t read x (inr d) h = heard_dead new t (c ∷ read) d.1
 
 -- the letters of a name that begins
 pub record Begins (new : Letters) (c : ℕ) : Type 0 where
@@ -327,13 +331,16 @@ begins_at : (new : Letters) (g : Goal) (c : ℕ) (q : Place) → Begins new c �
 begins_at new g c q x e =
     subst (λ (p : Place). Hears new.letters.items new.escapes p (c ∷ [])) (sym e) (begins new.letters.items new.escapes g c x.letters x.escapes)
 
+starts_at : (new : Letters) (g : Goal) (c : ℕ) (t : State) → Begins new c → LeadsStart g c t → HeardAt new t (c ∷ [])
+starts_at new g c (Token q) x e = begins_at new g c q x e
+starts_at new g c Start x e = tt
+starts_at new g c Slash x e = tt
+starts_at new g c LineComment x e = absurd e
+starts_at new g c (BlockComment star) x e = absurd e
+
 after_token : (new : Letters) (s : Place) (g : Goal) (c : ℕ) (k : Kind) (t : State) → Begins new c → LeadsFrom s g c (Some k) t → HeardAt new t (c ∷ [])
-after_token new s g c k (Token q) x (inl e) = begins_at new g c q x e.1
-after_token new s g c k (Token q) x (inr d) = λ u r. absurd (dead_no_name q u d r)
-after_token new s g c k Start x e = tt
-after_token new s g c k Slash x e = tt
-after_token new s g c k LineComment x e = tt
-after_token new s g c k (BlockComment star) x e = tt
+after_token new s g c k t x (inl e) = starts_at new g c t x e.2
+after_token new s g c k t x (inr d) = heard_dead new t (c ∷ []) d.1
 
 -- no name begins with a slash
 pub slash_no_name : (g : Goal) (u : List ℕ) → Rest (behind_slash g) AName u → ⊥
@@ -343,23 +350,35 @@ slash_no_name g u r = by_half (is_div g) r
     by_half true h = mark_no_name TheSlash u h
     by_half false (k, h) = absurd cc
 
-after_slash : (new : Letters) (g : Goal) (c : ℕ) (given : Option Kind) (t : State) → Begins new c → LeadsFrom (behind_slash g) g c given t → HeardAt new t (own_after given (47 ∷ []) c)
+by_slash : (new : Letters) (g : Goal) (c : ℕ) (t : State) → LeadsFrom (behind_slash g) g c None t → HeardAt new t (c ∷ 47 ∷ [])
+by_slash new g c t (inl e) =
+    subst (λ (u : State). HeardAt new u (c ∷ 47 ∷ [])) (sym e.0) (λ u r. absurd (slash_no_name g (c ∷ u) (comes (behind_slash g) AName c u r)))
+by_slash new g c t (inr d) = heard_dead new t (c ∷ 47 ∷ []) d.1
+
+after_slash : (new : Letters) (g : Goal) (c : ℕ) (given : Option Kind) (t : State) → Begins new c → Leads Slash g c given t → HeardAt new t (own_after given (47 ∷ []) c)
 after_slash new g c (Some k) t x e = after_token new (behind_slash g) g c k t x e
-after_slash new g c None (Token q) x (inl e) =
-    λ u r. absurd (slash_no_name g (c ∷ u) (comes (behind_slash g) AName c u (subst (λ (p : Place). Rest p AName u) e r)))
-after_slash new g c None (Token q) x (inr d) = λ u r. absurd (dead_no_name q u d r)
+after_slash new g c None (Token q) x e = by_slash new g c (Token q) e
 after_slash new g c None Start x e = tt
 after_slash new g c None Slash x e = tt
 after_slash new g c None LineComment x e = tt
 after_slash new g c None (BlockComment star) x e = tt
 
-between_tokens : (new : Letters) (g : Goal) (c : ℕ) (given : Option Kind) (t : State) → Begins new c → LeadsBetween g c given t → HeardAt new t (own_after given [] c)
-between_tokens new g c None (Token q) x e = begins_at new g c q x e
-between_tokens new g c None Start x e = tt
-between_tokens new g c None Slash x e = tt
-between_tokens new g c None LineComment x e = tt
-between_tokens new g c None (BlockComment star) x e = tt
+-- in a comment no name is heard
+in_comment : (l : Letters) (t s : State) (b : Bool) (read : List ℕ) → is_in_name s ≡ false → t ≡ (if b then Start else s) → HeardAt l t read
+in_comment l t s true read n e = subst (λ (u : State). HeardAt l u read) (sym e) tt
+in_comment l t s false read n e = subst (λ (u : State). HeardAt l u read) (sym e) (heard_outside l s read n)
+
+between_tokens : (new : Letters) (g : Goal) (c : ℕ) (given : Option Kind) (t : State) → Begins new c → Leads Start g c given t → HeardAt new t (own_after given [] c)
+between_tokens new g c None t x e = starts_at new g c t x e
 between_tokens new g c (Some k) t x e = absurd e
+
+after_line : (new : Letters) (g : Goal) (c : ℕ) (given : Option Kind) (t : State) → Leads LineComment g c given t → HeardAt new t (own_after given [] c)
+after_line new g c None t e = in_comment new t LineComment (is_line_end c) (c ∷ []) refl e
+after_line new g c (Some k) t e = absurd e
+
+after_block : (new : Letters) (star : Bool) (g : Goal) (c : ℕ) (given : Option Kind) (t : State) → Leads (BlockComment star) g c given t → HeardAt new t (own_after given [] c)
+after_block new star g c None t e = in_comment new t (BlockComment (c == 42)) (star && (c == 47)) (c ∷ []) refl e
+after_block new star g c (Some k) t e = absurd e
 
 -- a token has ended or was none
 abbrev pub Anew : State → Option Kind → Type 0
@@ -371,8 +390,8 @@ follow_anew new (Token p) g c None t read a x e = absurd a
 follow_anew new (Token p) g c (Some k) t read a x e = after_token new p g c k t x e
 follow_anew new Slash g c given t read a x e = after_slash new g c given t x e
 follow_anew new Start g c given t read a x e = between_tokens new g c given t x e
-follow_anew new LineComment g c given t read a x e = between_tokens new g c given t x e
-follow_anew new (BlockComment star) g c given t read a x e = between_tokens new g c given t x e
+follow_anew new LineComment g c given t read a x e = after_line new g c given t e
+follow_anew new (BlockComment star) g c given t read a x e = after_block new star g c given t e
 
 pub anew_some : (s : State) (o : Option Kind) → is_some o ≡ true → Anew s o
 anew_some s None e = absurd cc

@@ -8,9 +8,10 @@ use Rattle.es5_lexer.specs.Suits.{is_div, suits, Suits}
 use Rattle.es5_lexer.specs.Places.{next, ended, behind_slash, longer}
 use Rattle.es5_lexer.specs.Rests.{MarkRest, Rest}
 use Rattle.es5_lexer.specs.Reading.{token_of}
-use Rattle.es5_lexer.specs.Residuals.{onto, TokenFrom, LineFrom, BlockFrom, From, GoesOn, own, own_after, given_by, Steps, Ends, EndsAs, Leads, LeadsFrom, LeadsBetween, is_dead_state}
+use Rattle.es5_lexer.specs.Residuals.{onto, TokenFrom, LineFrom, BlockFrom, From, GoesOn, own, own_after, given_by, Steps, Ends, EndsAs, Leads, LeadsFrom, is_dead_state}
 use Rattle.es5_lexer.specs.Letters.{Hears, HeardAt, token_of_letters, token_of_kind, given_lexemes}
-use Rattle.es5_lexer.specs.Lexing.{Residual, HasRead}
+use Rattle.es5_lexer.specs.Begins.{IsFront}
+use Rattle.es5_lexer.specs.Lexing.{Residual, EscapeAt, Within, HasRead}
 use Rattle.es5_lexer.specs.declared.tokens.Goal.{Goal}
 use Rattle.es5_lexer.specs.declared.tokens.Token.{Token as AToken}
 use Rattle.es5_lexer.specs.declared.tokens.Lexeme.{Lexeme}
@@ -22,15 +23,25 @@ use Rattle.es5_lexer.specs.declared.places.Kind.{Kind}
 use Rattle.es5_lexer.specs.declared.places.Kind.TheVariants.{Name as AName, Punct as APunct, Number as ANumber, Text as AText, Pattern as APattern}
 use Rattle.es5_lexer.specs.declared.places.Place.{Place}
 use Rattle.es5_lexer.specs.declared.places.Place.TheVariants.{Mark as AtMark, Pattern}
+use Rattle.es5_lexer.specs.declared.places.Seen.TheVariants.{EscapeMark}
 use Rattle.es5_lexer.specs.declared.places.PatternPlace.TheVariants.{BodyStart}
 use Rattle.es5_lexer.specs.declared.states.State.{State}
 use Rattle.es5_lexer.specs.declared.states.State.TheVariants.{Start, Slash, LineComment, BlockComment, Token}
 use Rattle.es5_lexer.proofs.Choices.{split, not_true}
 use Rattle.es5_lexer.proofs.PlaceLemmas.{ended_rest}
 use Rattle.es5_lexer.proofs.OpenLemmas.{Opened, a_blank, a_line, a_block, a_token, opened, line_first, block_first, token_first, reread, slash_no_blank}
-use Rattle.es5_lexer.proofs.TokenSteps.{Ended, of_ended, prepend, way, dead_from}
+use Rattle.es5_lexer.proofs.TokenSteps.{Ended, of_ended, prepend, way}
+use Rattle.es5_lexer.proofs.EscapeSteps.{digit_step}
+use Rattle.es5_lexer.proofs.AliveLemmas.{dead_state, Source, escape_step, within_step, backslash_step}
 use Rattle.es5_lexer.proofs.SlashLemmas.{first_slash, nothing, no_tokens, empty_lexes}
 use Rattle.es5_lexer.proofs.LetterLemmas.{slash_no_name, heard_token}
+
+append-nothing : (m : List Mark) → m ++ [] ≡ m
+append-nothing [] = refl
+append-nothing (x ∷ m) = ap (λ (w : List Mark). x ∷ w) (append-nothing m)
+
+at_end : (m : List Mark) (end : Goal) (tokens : List Lexeme) → Lexes m end tokens → Lexes (m ++ []) end tokens
+at_end m end tokens h = subst (λ (w : List Mark). Lexes w end tokens) (sym (append-nothing m)) h
 
 -- the residual doesn't ask for what isn't a state's own
 
@@ -47,14 +58,6 @@ from_own Slash read f w end tokens h = h
 from_own LineComment read f w end tokens h = h
 from_own (BlockComment star) read f w end tokens h = h
 from_own (Token p) read f w end tokens h = h
-
--- nothing goes on from a dead state
-pub dead_state : (s : State) (read : List ℕ) (f : Bool) (w : List Mark) (end : Goal) (tokens : List Lexeme) → is_dead_state s ≡ true → From s read f w end tokens → ⊥
-dead_state (Token p) read f w end tokens e h = dead_from p read f w end tokens e h
-dead_state Start read f w end tokens e h = absurd cc
-dead_state Slash read f w end tokens e h = absurd cc
-dead_state LineComment read f w end tokens e h = absurd cc
-dead_state (BlockComment star) read f w end tokens e h = absurd cc
 
 -- the tokens given are those of the step, or no text goes on
 abbrev pub Gives : Option Kind → List ℕ → Bool → List Lexeme → State → Type 0
@@ -112,23 +115,16 @@ slash_hears l g u r = absurd (slash_no_name g u r)
 
 from_place : (l : Letters) (p : Place) (g : Goal) (c : ℕ) (k : Option Kind) (t : State) (read : List ℕ) (f : Bool) → Hears l.letters.items l.escapes p read → LeadsFrom p g c k t → Gives k read f (given_lexemes l k f) t
 from_place l p g c None t read f h e = inl refl
-from_place l p g c (Some k) (Token q) read f h (inl e) = inl (given_same l k p read f h e.0)
-from_place l p g c (Some k) (Token q) read f h (inr d) = inr d
-from_place l p g c (Some k) Start read f h e = inl (given_same l k p read f h e)
-from_place l p g c (Some k) Slash read f h e = inl (given_same l k p read f h e)
-from_place l p g c (Some k) LineComment read f h e = inl (given_same l k p read f h e)
-from_place l p g c (Some k) (BlockComment star) read f h e = inl (given_same l k p read f h e)
-
-between : (l : Letters) (g : Goal) (c : ℕ) (k : Option Kind) (t : State) (f : Bool) → LeadsBetween g c k t → Gives k [] f (given_lexemes l k f) t
-between l g c None t f e = inl refl
-between l g c (Some k) t f e = absurd e
+from_place l p g c (Some k) t read f h (inl e) = inl (given_same l k p read f h e.0)
+from_place l p g c (Some k) t read f h (inr d) = inr d.1
 
 gives_of : (l : Letters) (s : State) (g : Goal) (c : ℕ) (k : Option Kind) (t : State) (read : List ℕ) (f : Bool) → HeardAt l s (own s read) → Leads s g c k t → Gives k (own s read) f (given_lexemes l k f) t
-gives_of l (Token p) g c k t read f h e = from_place l p g c k t read f h e
-gives_of l Slash g c k t read f h e = from_place l (behind_slash g) g c k t (47 ∷ []) f (slash_hears l g) e
-gives_of l Start g c k t read f h e = between l g c k t f e
-gives_of l LineComment g c k t read f h e = between l g c k t f e
-gives_of l (BlockComment star) g c k t read f h e = between l g c k t f e
+gives_of l s g c None t read f h e = inl refl
+gives_of l (Token p) g c (Some k) t read f h e = from_place l p g c (Some k) t read f h e
+gives_of l Slash g c (Some k) t read f h e = from_place l (behind_slash g) g c (Some k) t (47 ∷ []) f (slash_hears l g) e
+gives_of l Start g c (Some k) t read f h e = absurd e
+gives_of l LineComment g c (Some k) t read f h e = absurd e
+gives_of l (BlockComment star) g c (Some k) t read f h e = absurd e
 
 -- what a step says of the lexer behind it
 own_heard : (l : Letters) (t : State) (read : List ℕ) → HeardAt l t read → HeardAt l t (own t read)
@@ -137,6 +133,23 @@ own_heard l Start read h = h
 own_heard l Slash read h = h
 own_heard l LineComment read h = h
 own_heard l (BlockComment star) read h = h
+
+-- a `$` that goes on from the lexer
+source : (v : Lexer) (m : List Mark) (given : List Lexeme) (g : Goal) (h : HasRead v m given) → Source v.state h.read v.newline m g
+source v m given g h = record {
+  dollar = λ tokens x. record {
+    back = [];
+    end = g;
+    tokens = given ++ tokens;
+    lexes = at_end (m ++ mark g 36 ∷ []) g (given ++ tokens) (h.residual.comes (mark g 36 ∷ []) g (given ++ tokens) (record { others = tokens; is = refl; from = x }));
+  };
+  escape = h.escape;
+}
+
+base : (v u : Lexer) (m : List Mark) (given : List Lexeme) (g : Goal) (c : ℕ) (k : Option Kind) → HasRead v m given → Leads v.state g c k u.state → IsFront (m ++ mark g 36 ∷ []) → c ≡ 92 → Within EscapeMark u.state
+base v u m given g c k h leads x e =
+    let y = h.residual.goes (mark g 36 ∷ x.back) x.end x.tokens (subst (λ (z : List Mark). Lexes z x.end x.tokens) (append_assoc m (mark g 36 ∷ []) x.back) x.lexes) in
+    backslash_step v.state h.read v.newline g c k u.state x.back x.end y.others y.from e leads
 
 pub reads_on : (v u : Lexer) (m : List Mark) (given items : List Lexeme) (g : Goal) (c : ℕ) (k : Option Kind) → HasRead v m given → ((read : List ℕ) → Steps v.state read v.newline g c k u.state u.newline) → Leads v.state g c k u.state → items ≡ given_lexemes v.letters k v.newline → ((goal : Goal) (read : List ℕ) → Leads v.state goal c k u.state → HeardAt v.letters v.state (own v.state read) → HeardAt u.letters u.state (own_after k (own v.state read) c)) → HasRead u (m ++ mark g c ∷ []) (given ++ items)
 reads_on v u m given items g c k h steps leads e heard =
@@ -149,6 +162,8 @@ reads_on v u m given items g c k h steps leads e heard =
         goes = λ w end tokens x. more_goes v u h.read m given items g c k h.residual s gives w end tokens x;
         comes = λ w end tokens x. more_comes v u h.read m given items g c k h.residual s gives w end tokens x;
       };
+      escape = λ host later i. escape_step v.state h.read v.newline m g c k host later (source v m given g h) (subst (λ (x : State). Leads v.state g c k x) i leads);
+      within = within_step m g c u.state (base v u m given g c k h leads) (λ seen a d. digit_step seen c v.state g k u.state d (h.within seen a) leads);
     }
 
 -- another goal with the next character
@@ -338,13 +353,6 @@ change_end (Token p) read f other goal tokens fits h = token_end_change p read f
 
 -- the ends of texts
 
-append-nothing : (m : List Mark) → m ++ [] ≡ m
-append-nothing [] = refl
-append-nothing (x ∷ m) = ap (λ (w : List Mark). x ∷ w) (append-nothing m)
-
-at_end : (m : List Mark) (end : Goal) (tokens : List Lexeme) → Lexes m end tokens → Lexes (m ++ []) end tokens
-at_end m end tokens h = subst (λ (w : List Mark). Lexes w end tokens) (sym (append-nothing m)) h
-
 of_end : (m : List Mark) (end : Goal) (tokens : List Lexeme) → Lexes (m ++ []) end tokens → Lexes m end tokens
 of_end m end tokens h = subst (λ (w : List Mark). Lexes w end tokens) (append-nothing m) h
 
@@ -385,3 +393,29 @@ end_exact v m given items tokens goal whole k ends kind e h l =
     let y = (ends h.read v.newline).goes x.others x.from in
     let same = e ∙ last_same v.letters v.state goal whole k h.read v.newline h.heard kind y.0 in
     (y.0, x.is ∙ ap (λ (z : List Lexeme). given ++ z) (y.1 ∙ sym same))
+
+-- a new lexer has read nothing
+
+no_escape : (a : List Mark) (x : Mark) (b : List Mark) → [] ≡ a ++ x ∷ b → ⊥
+no_escape [] x b e = absurd cc
+no_escape (y ∷ a) x b e = absurd cc
+
+pub new_reads : (v : Lexer) → v.state ≡ Start → v.newline ≡ false → HasRead v [] []
+new_reads v s n = record {
+  read = [];
+  heard = subst (λ (x : State). HeardAt v.letters x (own x [])) (sym s) tt;
+  residual = record {
+    goes = λ w end tokens h. record { others = tokens; is = refl; from = at_start w end tokens h };
+    comes = λ w end tokens h. subst (λ (x : List Lexeme). LexesFrom false w end x) (sym h.is) (of_start w end h.others h.from);
+  };
+  escape = λ host seen e. absurd cc;
+  within = λ seen h. absurd (no_escape h.before h.backslash h.digits h.splits);
+}
+  where
+    at_start : (w : List Mark) (end : Goal) (tokens : List Lexeme) → LexesFrom false w end tokens → From v.state (own v.state []) v.newline w end tokens
+    at_start w end tokens h =
+        subst (λ (x : State). From x (own x []) v.newline w end tokens) (sym s) (subst (λ (x : Bool). LexesFrom x w end tokens) (sym n) h)
+
+    of_start : (w : List Mark) (end : Goal) (tokens : List Lexeme) → From v.state (own v.state []) v.newline w end tokens → LexesFrom false w end tokens
+    of_start w end tokens h =
+        subst (λ (x : Bool). LexesFrom x w end tokens) n (subst (λ (x : State). From x (own x []) v.newline w end tokens) s h)

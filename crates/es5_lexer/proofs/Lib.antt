@@ -18,3 +18,5 @@ pub mod TokenSteps
 pub mod SlashLemmas
 pub mod LetterLemmas
 pub mod LexerLemmas
+pub mod EscapeSteps
+pub mod AliveLemmas

@@ -110,7 +110,7 @@ comment_block_step read f g c e =
 
 -- else the slash begins a token
 
-token_begins : (f : Bool) (g : Goal) (c : ℕ) (w : List Mark) (end : Goal) (tokens : List Lexeme) → (c == 47) ≡ false → (c == 42) ≡ false → Opened f 47 (mark g c ∷ w) end tokens → TokenFrom (behind_slash g) (47 ∷ []) f (mark g c ∷ w) end tokens
+pub token_begins : (f : Bool) (g : Goal) (c : ℕ) (w : List Mark) (end : Goal) (tokens : List Lexeme) → (c == 47) ≡ false → (c == 42) ≡ false → Opened f 47 (mark g c ∷ w) end tokens → TokenFrom (behind_slash g) (47 ∷ []) f (mark g c ∷ w) end tokens
 token_begins f g c w end tokens l b (a_blank x _) = absurd (slash_no_blank 47 refl x)
 token_begins f g c w end tokens l b (a_line d v _ spells s _) =
     let head : mark g c ≡ d = cc in
@@ -166,7 +166,7 @@ block_end star read f g = record {
 }
 
 -- at the end of a token
-last_token : (s : Place) (read : List ℕ) (f : Bool) (g : Goal) (k : Kind) → ended s ≡ Some k → Ends (Token s) read f g true (Some k)
+pub last_token : (s : Place) (read : List ℕ) (f : Bool) (g : Goal) (k : Kind) → ended s ≡ Some k → Ends (Token s) read f g true (Some k)
 last_token s read f g k e = record {
   goes = λ tokens h.
       let n = nothing h.before h.after h.spells in

@@ -271,13 +271,13 @@ first_backslash g c e =
     let known : first g 92 ≡ Escape FirstChar EscapeMark = else_in (λ (x : Place). x ≡ Escape FirstChar EscapeMark) (is_start 92) _ _ (ap is_start_class backslash) refl in
     subst (λ (x : ℕ). first g x ≡ Escape FirstChar EscapeMark) (sym e) known
 
-backslash_no_blank : (c : ℕ) → c ≡ 92 → is_blank c ≡ true → ⊥
+pub backslash_no_blank : (c : ℕ) → c ≡ 92 → is_blank c ≡ true → ⊥
 unfolding class_of general_category general_category_rows value_in
 backslash_no_blank c e b =
     let none : is_blank 92 ≡ false = refl in
     never (is_blank c) b (ap is_blank e ∙ none)
 
-not_both : (c : ℕ) → c ≡ 92 → c ≡ 47 → ⊥
+pub not_both : (c : ℕ) → c ≡ 92 → c ≡ 47 → ⊥
 not_both c e k = absurd cc
 
 no_cons : (c : ℕ) (u : List ℕ) → c ∷ u ≡ [] → ⊥
@@ -318,7 +318,7 @@ token_step s read f g c live =
 same_kind : (s : Place) (k l : Kind) → ended s ≡ Some k → Rest s l [] → l ≡ k
 same_kind s k l e r = let f = ends_here s l r in cc
 
-none_longer : (s : Place) (c : ℕ) (u : List ℕ) → is_dead (next s c) ≡ true → (a b : List ℕ) (l : Kind) → c ∷ u ≡ a ++ b → Rest s l a → a ≡ []
+pub none_longer : (s : Place) (c : ℕ) (u : List ℕ) → is_dead (next s c) ≡ true → (a b : List ℕ) (l : Kind) → c ∷ u ≡ a ++ b → Rest s l a → a ≡ []
 none_longer s c u dead [] b l e r = refl
 none_longer s c u dead (d ∷ a) b l e r =
     let head : d ≡ c = cc in

@@ -1,8 +1,9 @@
 -- What may still come from each state of a lexer that is fed characters: its residual. A text goes on
 -- from a state exactly where the characters fed and then that text have tokens.
-use Rattle.std.specs.Prelude.{◌≡◌, ℕ, Bool, true, false, if◌then◌else◌, Option, Some, None, List, [], ◌∷◌, ◌++◌, ◌⊎◌}
-use Rattle.es5_lexer.specs.Trivia.{is_line_comment, EndsLine, IsCommentRest}
-use Rattle.es5_lexer.specs.Tokens.{may_precede}
+use Rattle.std.specs.Prelude.{◌≡◌, ℕ, Bool, true, false, if◌then◌else◌, Option, Some, None, List, [], ◌∷◌, ◌++◌, ◌⊎◌, ◌&&◌, ◌==◌}
+use Rattle.es5_lexer.specs.Characters.{is_line_end}
+use Rattle.es5_lexer.specs.Trivia.{is_blank, is_line_comment, EndsLine, IsCommentRest}
+use Rattle.es5_lexer.specs.Tokens.{is_barred, may_precede}
 use Rattle.es5_lexer.specs.Texts.{Mark, mark, chars, ended_in, LexesFrom}
 use Rattle.es5_lexer.specs.Places.{first, next, ended, is_dead, behind_slash}
 use Rattle.es5_lexer.specs.Rests.{Rest}
@@ -90,33 +91,47 @@ pub record Ends (s : State) (read : List ℕ) (newline : Bool) (g : Goal) (whole
   pub goes : (tokens : List Lexeme) → From s (own s read) newline [] g tokens → (whole ≡ true) × (tokens ≡ given_by given (own s read) newline)
   pub comes : whole ≡ true → From s (own s read) newline [] g (given_by given (own s read) newline)
 
--- the places that a character leads to, and the token that has ended before it
+-- no text goes on from the state
+abbrev pub is_dead_state : State → Bool
+is_dead_state (Token p) = is_dead p
+is_dead_state _ = false
+
+-- where a character leads to that ends no token and is in none
+abbrev pub LeadsStart : Goal → ℕ → State → Type 0
+LeadsStart g c Start = is_blank c ≡ true
+LeadsStart g c Slash = c ≡ 47
+LeadsStart g c (Token q) = q ≡ first g c
+LeadsStart g c _ = ⊥
+
+-- no token goes on by the character or may stand before it, and no text goes on
+abbrev pub Dies : Place → ℕ → State → Type 0
+Dies p c t =
+    (is_dead (next p c) ≡ true)
+    × (is_dead_state t ≡ true)
+    × ((k : Kind) → ended p ≡ Some k → (u : List ℕ) → is_barred (token_of k u) c ≡ true)
+
+-- where a character leads to in a token: it goes on, or has ended and may stand before the character
 abbrev pub LeadsFrom : Place → Goal → ℕ → Option Kind → State → Type 0
-LeadsFrom p g c None (Token q) = (q ≡ next p c) ⊎ (is_dead q ≡ true)
-LeadsFrom p g c None t = Unit {0}
-LeadsFrom p g c (Some k) (Token q) = ((ended p ≡ Some k) × (q ≡ first g c)) ⊎ (is_dead q ≡ true)
-LeadsFrom p g c (Some k) t = ended p ≡ Some k
+LeadsFrom p g c None t = ((t ≡ Token (next p c)) × (is_dead (next p c) ≡ false)) ⊎ Dies p c t
+LeadsFrom p g c (Some k) t =
+    ((ended p ≡ Some k) × ((u : List ℕ) → is_barred (token_of k u) c ≡ false) × LeadsStart g c t) ⊎ Dies p c t
 
-abbrev pub LeadsBetween : Goal → ℕ → Option Kind → State → Type 0
-LeadsBetween g c None (Token q) = q ≡ first g c
-LeadsBetween g c None t = Unit {0}
-LeadsBetween g c (Some k) t = ⊥
-
+-- where a character leads to, and the token that has ended before it
 abbrev pub Leads : State → Goal → ℕ → Option Kind → State → Type 0
-Leads (Token p) g c given t = LeadsFrom p g c given t
+Leads Start g c None t = LeadsStart g c t
+Leads Slash g c None LineComment = c ≡ 47
+Leads Slash g c None (BlockComment star) = c ≡ 42
 Leads Slash g c given t = LeadsFrom (behind_slash g) g c given t
-Leads _ g c given t = LeadsBetween g c given t
+Leads LineComment g c None t = t ≡ (if is_line_end c then Start else LineComment)
+Leads (BlockComment star) g c None t = t ≡ (if star && (c == 47) then Start else BlockComment (c == 42))
+Leads (Token p) g c given t = LeadsFrom p g c given t
+Leads _ g c (Some k) t = ⊥
 
 -- the token that ends with the text
 abbrev pub EndsAs : State → Goal → Bool → Option Kind → Type 0
 EndsAs (Token p) g whole given = whole ≡ true → given ≡ ended p
 EndsAs Slash g whole given = whole ≡ true → given ≡ ended (behind_slash g)
 EndsAs _ g whole given = given ≡ None
-
--- no text goes on from the state
-abbrev pub is_dead_state : State → Bool
-is_dead_state (Token p) = is_dead p
-is_dead_state _ = false
 
 -- a name stands at the state, or what may become one
 abbrev pub is_name_place : Place → Bool

@@ -72,6 +72,15 @@ impl Lexer {
         whole
     }
 
+    /// Whether no text that begins with the characters read has tokens: whatever comes, `finish` will
+    /// answer no. While they end in an escape of a name or of flags that isn't whole, its digits don't
+    /// count.
+    pub fn is_dead(&self) -> bool
+        ensures { (m : List Mark) (given : List Lexeme) → HasRead self.now m given → IsTrue result ↔ (Begins m → ⊥) }
+    {
+        self.state.is_dead()
+    }
+
     /// Appends a token that has ended.
     fn give(&self, kind: Option<Kind>, out: &mut ArrayVec<Lexeme, 2>)
         requires { out.old.items ≡ [] }
