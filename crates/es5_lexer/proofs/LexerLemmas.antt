@@ -169,7 +169,7 @@ reads_on v u m given items g c k h steps leads e heard =
 -- another goal with the next character
 
 -- the rest of a comment or of a token whose first character came with another goal
-line_change : (f : Bool) (g h : Goal) (c : ℕ) (w : List Mark) (end : Goal) (tokens : List Lexeme) → LineFrom f (mark g c ∷ w) end tokens → LineFrom f (mark h c ∷ w) end tokens
+pub line_change : (f : Bool) (g h : Goal) (c : ℕ) (w : List Mark) (end : Goal) (tokens : List Lexeme) → LineFrom f (mark g c ∷ w) end tokens → LineFrom f (mark h c ∷ w) end tokens
 line_change f g h c w end tokens x = by_comment x.comment x.after x.spells x.is x.ends x.further
   where
     by_comment : (q r : List Mark) → mark g c ∷ w ≡ q ++ r → is_line_comment (chars q) ≡ true → EndsLine (chars r) → LexesFrom f r end tokens → LineFrom f (mark h c ∷ w) end tokens
@@ -193,7 +193,7 @@ line_change f g h c w end tokens x = by_comment x.comment x.after x.spells x.is 
           further = l;
         }
 
-block_change : (star f : Bool) (g h : Goal) (c : ℕ) (w : List Mark) (end : Goal) (tokens : List Lexeme) → BlockFrom star f (mark g c ∷ w) end tokens → BlockFrom star f (mark h c ∷ w) end tokens
+pub block_change : (star f : Bool) (g h : Goal) (c : ℕ) (w : List Mark) (end : Goal) (tokens : List Lexeme) → BlockFrom star f (mark g c ∷ w) end tokens → BlockFrom star f (mark h c ∷ w) end tokens
 block_change star f g h c w end tokens x = by_comment x.comment x.after x.spells x.is x.further
   where
     by_comment : (q r : List Mark) → mark g c ∷ w ≡ q ++ r → IsCommentRest star (chars q) → LexesFrom (ended_in f (chars q)) r end tokens → BlockFrom star f (mark h c ∷ w) end tokens
@@ -209,7 +209,7 @@ block_change star f g h c w end tokens x = by_comment x.comment x.after x.spells
           further = subst (λ (y : ℕ). LexesFrom (ended_in f (y ∷ chars q)) r end tokens) same l;
         }
 
-token_change : (p : Place) (read : List ℕ) (f : Bool) (g h : Goal) (c : ℕ) (w : List Mark) (end : Goal) (tokens : List Lexeme) → TokenFrom p read f (mark g c ∷ w) end tokens → TokenFrom p read f (mark h c ∷ w) end tokens
+pub token_change : (p : Place) (read : List ℕ) (f : Bool) (g h : Goal) (c : ℕ) (w : List Mark) (end : Goal) (tokens : List Lexeme) → TokenFrom p read f (mark g c ∷ w) end tokens → TokenFrom p read f (mark h c ∷ w) end tokens
 token_change p read f g h c w end tokens x = by_way (way p read f g c w end tokens x)
   where
     by_way : TokenFrom (next p c) (c ∷ read) f w end tokens ⊎ Ended p read f (mark g c ∷ w) end tokens → TokenFrom p read f (mark h c ∷ w) end tokens
@@ -419,3 +419,8 @@ new_reads v s n = record {
     of_start : (w : List Mark) (end : Goal) (tokens : List Lexeme) → From v.state (own v.state []) v.newline w end tokens → LexesFrom false w end tokens
     of_start w end tokens h =
         subst (λ (x : Bool). LexesFrom x w end tokens) n (subst (λ (x : State). From x (own x []) v.newline w end tokens) s h)
+
+-- laws
+
+pub stays : (v : Lexer) (m : List Mark) (given : List Lexeme) → HasRead v m given → (w : List Mark) (end : Goal) (tokens : List Lexeme) → Lexes (m ++ w) end tokens → (others : List Lexeme) × (tokens ≡ given ++ others)
+stays v m given h w end tokens l = let x = h.residual.goes w end tokens l in (x.others, x.is)

@@ -20,3 +20,4 @@ pub mod LetterLemmas
 pub mod LexerLemmas
 pub mod EscapeSteps
 pub mod AliveLemmas
+pub mod RunLemmas

@@ -16,3 +16,4 @@ pub mod Reading
 pub mod Residuals
 pub mod Letters
 pub mod Lexing
+pub mod Runs

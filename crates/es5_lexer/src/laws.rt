@@ -1,8 +1,10 @@
 //! Laws of the definitions.
-ghost use Rattle.std.specs.Prelude.{◌≡◌, ℕ, List, ◌↔◌};
+ghost use Rattle.std.specs.Prelude.{◌≡◌, ℕ, List, ◌++◌, ◌↔◌};
 ghost use Rattle.es5_lexer.specs.Texts.{Mark, Lexes, LexesEither, HasReading, IsNextToken};
 ghost use Rattle.es5_lexer.specs.declared.tokens.Goal.{Goal};
 ghost use Rattle.es5_lexer.specs.declared.tokens.Lexeme.{Lexeme};
+ghost use Rattle.es5_lexer.specs.Lexing.{HasRead};
+ghost use Rattle.es5_lexer.specs.declared.lexer.Lexer.{Lexer};
 
 /// Under given goals a text has at most one list of tokens.
 pub fn one_list_of_tokens()
@@ -18,4 +20,9 @@ pub fn one_next_token()
 /// A text with these tokens, each slash read in either way, is one with these tokens under some goals.
 pub fn either_reading()
     ensures { (u : List ℕ) (tokens : List Lexeme) → LexesEither u tokens ↔ HasReading u tokens }
+{}
+
+/// What a lexer gave is a prefix of the tokens of every text that goes on from what it has read.
+pub fn given_tokens_stay()
+    ensures { (lexer : Lexer) (m : List Mark) (given : List Lexeme) → HasRead lexer m given → (w : List Mark) (end : Goal) (tokens : List Lexeme) → Lexes (m ++ w) end tokens → (others : List Lexeme) × (tokens ≡ given ++ others) }
 {}

@@ -2,7 +2,7 @@
 //!
 //! No reserved word has more than ten letters. So eleven of a name's letters, and whether one of them is
 //! written by an escape, tell its token.
-ghost use Rattle.std.specs.Prelude.{◌≡◌, ℕ, List, false, ◌||◌, []};
+ghost use Rattle.std.specs.Prelude.{◌≡◌, ℕ, List, false, ◌||◌, [], not, nat_lt, length};
 ghost use Rattle.es5_lexer.specs.Letters.{kept_letter, with_letter, letter, ends_escape, token_of_letters, HeardAt};
 ghost use Rattle.es5_lexer.specs.Residuals.{Leads, own, own_after};
 ghost use Rattle.es5_lexer.specs.declared.tokens.Goal.{Goal};
@@ -40,6 +40,13 @@ impl Letters {
         ensures { result ≡ token_of_letters self.now.escapes self.now.letters.items }
     {
         name_of_letters(self.escapes, self.letters.as_slice())
+    }
+
+    /// Whether all the letters that are kept of a name are there.
+    pub(crate) fn is_full(&self) -> bool
+        ensures { result ≡ not (nat_lt (length self.now.letters.items) 11) }
+    {
+        self.letters.is_full()
     }
 
     /// Follows a lexer from a state to the one behind the character.

@@ -3,8 +3,10 @@
 //! A [`Lexer`] is fed one character after another, each with the goal that the grammar of programs has
 //! then, and gives each token once the character behind it has come. It is of a fixed size: the state
 //! (`states`) has its place in a token, and of a name eleven letters are kept (`letters`).
-ghost use Rattle.std.specs.Prelude.{◌≡◌, ℕ, List, [], ◌∷◌, ◌++◌, IsTrue, ◌↔◌};
-ghost use Rattle.es5_lexer.specs.Texts.{Mark, mark, Lexes};
+ghost use Rattle.std.specs.Prelude.{◌≡◌, ◌≤◌, ℕ, true, List, [], ◌∷◌, ◌++◌, length, take, IsTrue, ◌↔◌};
+ghost use Rattle.std.specs.List.{list_all};
+ghost use Rattle.std.specs.Char.{is_ascii};
+ghost use Rattle.es5_lexer.specs.Texts.{Mark, mark, chars, Lexes};
 ghost use Rattle.es5_lexer.specs.Suits.{Suits};
 ghost use Rattle.es5_lexer.specs.Begins.{Begins};
 ghost use Rattle.es5_lexer.specs.Lexing.{HasRead};
@@ -14,6 +16,7 @@ ghost use Rattle.es5_lexer.specs.declared.tokens.Lexeme.{Lexeme};
 
 use crate::letters::Letters;
 use crate::places::Kind;
+use crate::runs::{run_length, staying};
 use crate::states::{State, Step};
 use crate::tokens::{Goal, Lexeme, Token};
 use arrayvec::ArrayVec;
@@ -79,6 +82,18 @@ impl Lexer {
         ensures { (m : List Mark) (given : List Lexeme) → HasRead self.now m given → IsTrue result ↔ (Begins m → ⊥) }
     {
         self.state.is_dead()
+    }
+
+    /// How many bytes at the front of the piece are ASCII characters that leave the lexer as it is, under
+    /// whatever goals: most of white space, comments, strings and long names. They have been read then
+    /// without being fed.
+    pub fn run_length(&self, piece: &[u8]) -> usize
+        ensures within { result ≤ length piece.now }
+        ensures ascii { list_all is_ascii (take result piece.now) ≡ true }
+        ensures reads { (m : List Mark) (given : List Lexeme) → HasRead self.now m given → (q : List Mark) → chars q ≡ take result piece.now → HasRead self.now (m ++ q) given }
+        ensures asks { (m : List Mark) (given : List Lexeme) → HasRead self.now m given → (p q w : List Mark) → chars p ≡ take result piece.now → chars q ≡ take result piece.now → (end : Goal) (tokens : List Lexeme) → Lexes (m ++ (p ++ w)) end tokens → Lexes (m ++ (q ++ w)) end tokens }
+    {
+        run_length(staying(self.state, self.letters.is_full()), piece)
     }
 
     /// Appends a token that has ended.

@@ -15,6 +15,7 @@ mod marks;
 mod names;
 mod next;
 mod places;
+mod runs;
 mod slices;
 mod states;
 #[cfg(test)]
@@ -23,6 +24,8 @@ mod tokens;
 mod trivia;
 
 pub use lexer::Lexer;
-pub use laws::{either_reading, one_list_of_tokens, one_next_token};
+pub use laws::{
+    either_reading, given_tokens_stay, one_list_of_tokens, one_next_token,
+};
 pub use next::{next_token, rest_is_trivia};
 pub use tokens::{Goal, Lexeme, Punct, Token, Word};

@@ -1,0 +1,19 @@
+use Rattle.std.proofs.Common.{sym, ◌∙◌}
+use Rattle.es5_lexer.proofs.RunLemmas.{run_reads, run_asks, run_stays, run_ascii, run_within}
+use Rattle.es5_lexer.proofs.lexer.Lexer.run_length.Goals as goal
+
+pub returns-clause-within : goal.returns-clause-within
+returns-clause-within c = run_within _ c.args.piece.now c.run_length.result c.run_length.ensures
+
+pub returns-clause-ascii : goal.returns-clause-ascii
+returns-clause-ascii c = run_ascii _ c.args.piece.now c.run_length.result c.run_length.ensures
+
+pub returns-clause-reads : goal.returns-clause-reads
+returns-clause-reads c m given h q e =
+    run_reads c.args.self.now given c.is_full.result c.is_full.ensures q m
+    (run_stays _ _ _ c.args.piece.now _ c.run_length.result c.staying.ensures c.run_length.ensures e) h
+
+pub returns-clause-asks : goal.returns-clause-asks
+returns-clause-asks c m given h p q w d e end tokens l =
+    run_asks c.args.self.now given c.is_full.result c.is_full.ensures p q w m (d ∙ sym e)
+    (run_stays _ _ _ c.args.piece.now _ c.run_length.result c.staying.ensures c.run_length.ensures e) h end tokens l

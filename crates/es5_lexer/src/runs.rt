@@ -1,0 +1,142 @@
+//! Runs of characters that leave a lexer as it is.
+//!
+//! Most characters of a script stand in names, white space, comments and strings, where a lexer stays in
+//! its state. A run of them is found by one look-up a byte, in a table for each of these states.
+ghost use Rattle.std.specs.Prelude.{◌≡◌, ◌<◌, ℕ, Bool, true, false, slice_index_or};
+ghost use Rattle.std.specs.List.{prefix_len};
+ghost use Rattle.es5_lexer.specs.Runs.{Stays, is_in};
+
+use crate::places::{Place, Quote, TextPlace};
+use crate::states::State;
+
+const T: bool = true;
+const F: bool = false;
+
+/// The ASCII characters that leave the state as it is, where a name has all the letters that are kept of
+/// it or hasn't: white space between tokens, and what a comment, a string or a long name goes on with.
+pub(crate) fn staying(state: State, is_full: bool) -> &'static [bool; 128]
+    ensures { (c : ℕ) → c < 128 → slice_index_or result.now c false ≡ true → Stays state is_full c }
+{
+    match state {
+        State::Start => &SPACES,
+        State::Slash => &NOTHING,
+        State::LineComment => &LINE_COMMENT,
+        State::BlockComment(star) => in_block(star),
+        State::Token(place) => in_token(place, is_full),
+    }
+}
+
+/// In a comment of several lines, behind a `*` or not.
+fn in_block(star: bool) -> &'static [bool; 128]
+    ensures { (full : Bool) (c : ℕ) → c < 128 → slice_index_or result.now c false ≡ true → Stays (State.BlockComment star) full c }
+{
+    if star { &NOTHING } else { &BLOCK_COMMENT }
+}
+
+/// In a token.
+fn in_token(place: Place, is_full: bool) -> &'static [bool; 128]
+    ensures { (c : ℕ) → c < 128 → slice_index_or result.now c false ≡ true → Stays (State.Token place) is_full c }
+{
+    match place {
+        Place::Name => in_name(is_full),
+        Place::Text(quote, place) => in_text(quote, place),
+        _ => &NOTHING,
+    }
+}
+
+/// In a name.
+fn in_name(is_full: bool) -> &'static [bool; 128]
+    ensures { (c : ℕ) → c < 128 → slice_index_or result.now c false ≡ true → Stays (State.Token Place.Name) is_full c }
+{
+    if is_full { &NAME_PARTS } else { &NOTHING }
+}
+
+/// In a string.
+fn in_text(quote: Quote, place: TextPlace) -> &'static [bool; 128]
+    ensures { (full : Bool) (c : ℕ) → c < 128 → slice_index_or result.now c false ≡ true → Stays (State.Token (Place.Text quote place)) full c }
+{
+    match place {
+        TextPlace::Chars => quoted(quote),
+        _ => &NOTHING,
+    }
+}
+
+/// Behind a whole character of a string.
+fn quoted(quote: Quote) -> &'static [bool; 128]
+    ensures { (full : Bool) (c : ℕ) → c < 128 → slice_index_or result.now c false ≡ true → Stays (State.Token (Place.Text quote TextPlace.Chars)) full c }
+{
+    match quote {
+        Quote::Double => &DOUBLE_QUOTED,
+        Quote::Single => &SINGLE_QUOTED,
+    }
+}
+
+/// How many bytes at the front of the piece are ASCII and in the table.
+pub(crate) fn run_length(table: &[bool; 128], piece: &[u8]) -> usize
+    ensures { result ≡ prefix_len (is_in table.now) piece.now }
+{
+    piece.iter().take_while(|b| is_in(table, **b)).count()
+}
+
+/// Whether the byte is ASCII and in the table.
+fn is_in(table: &[bool; 128], b: u8) -> bool
+    ensures { result ≡ is_in table.now b }
+{
+    b.is_ascii() && table[b as usize]
+}
+
+/// White space that ends no line.
+static SPACES: [bool; 128] = [
+    F, F, F, F, F, F, F, F, F, T, F, T, T, F, F, F, F, F, F, F, F, F, F, F, F, F, F, F, F, F, F, F,
+    T, F, F, F, F, F, F, F, F, F, F, F, F, F, F, F, F, F, F, F, F, F, F, F, F, F, F, F, F, F, F, F,
+    F, F, F, F, F, F, F, F, F, F, F, F, F, F, F, F, F, F, F, F, F, F, F, F, F, F, F, F, F, F, F, F,
+    F, F, F, F, F, F, F, F, F, F, F, F, F, F, F, F, F, F, F, F, F, F, F, F, F, F, F, F, F, F, F, F,
+];
+
+/// What goes on with a name.
+static NAME_PARTS: [bool; 128] = [
+    F, F, F, F, F, F, F, F, F, F, F, F, F, F, F, F, F, F, F, F, F, F, F, F, F, F, F, F, F, F, F, F,
+    F, F, F, F, T, F, F, F, F, F, F, F, F, F, F, F, T, T, T, T, T, T, T, T, T, T, F, F, F, F, F, F,
+    F, T, T, T, T, T, T, T, T, T, T, T, T, T, T, T, T, T, T, T, T, T, T, T, T, T, T, F, F, F, F, T,
+    F, T, T, T, T, T, T, T, T, T, T, T, T, T, T, T, T, T, T, T, T, T, T, T, T, T, T, F, F, F, F, F,
+];
+
+/// What goes on with a comment of one line.
+static LINE_COMMENT: [bool; 128] = [
+    T, T, T, T, T, T, T, T, T, T, F, T, T, F, T, T, T, T, T, T, T, T, T, T, T, T, T, T, T, T, T, T,
+    T, T, T, T, T, T, T, T, T, T, T, T, T, T, T, T, T, T, T, T, T, T, T, T, T, T, T, T, T, T, T, T,
+    T, T, T, T, T, T, T, T, T, T, T, T, T, T, T, T, T, T, T, T, T, T, T, T, T, T, T, T, T, T, T, T,
+    T, T, T, T, T, T, T, T, T, T, T, T, T, T, T, T, T, T, T, T, T, T, T, T, T, T, T, T, T, T, T, T,
+];
+
+/// What goes on with a comment of several lines, and neither ends a line nor may begin its end.
+static BLOCK_COMMENT: [bool; 128] = [
+    T, T, T, T, T, T, T, T, T, T, F, T, T, F, T, T, T, T, T, T, T, T, T, T, T, T, T, T, T, T, T, T,
+    T, T, T, T, T, T, T, T, T, T, F, T, T, T, T, T, T, T, T, T, T, T, T, T, T, T, T, T, T, T, T, T,
+    T, T, T, T, T, T, T, T, T, T, T, T, T, T, T, T, T, T, T, T, T, T, T, T, T, T, T, T, T, T, T, T,
+    T, T, T, T, T, T, T, T, T, T, T, T, T, T, T, T, T, T, T, T, T, T, T, T, T, T, T, T, T, T, T, T,
+];
+
+/// What stands for itself in a string in double quotes.
+static DOUBLE_QUOTED: [bool; 128] = [
+    T, T, T, T, T, T, T, T, T, T, F, T, T, F, T, T, T, T, T, T, T, T, T, T, T, T, T, T, T, T, T, T,
+    T, T, F, T, T, T, T, T, T, T, T, T, T, T, T, T, T, T, T, T, T, T, T, T, T, T, T, T, T, T, T, T,
+    T, T, T, T, T, T, T, T, T, T, T, T, T, T, T, T, T, T, T, T, T, T, T, T, T, T, T, T, F, T, T, T,
+    T, T, T, T, T, T, T, T, T, T, T, T, T, T, T, T, T, T, T, T, T, T, T, T, T, T, T, T, T, T, T, T,
+];
+
+/// The same in single quotes.
+static SINGLE_QUOTED: [bool; 128] = [
+    T, T, T, T, T, T, T, T, T, T, F, T, T, F, T, T, T, T, T, T, T, T, T, T, T, T, T, T, T, T, T, T,
+    T, T, T, T, T, T, T, F, T, T, T, T, T, T, T, T, T, T, T, T, T, T, T, T, T, T, T, T, T, T, T, T,
+    T, T, T, T, T, T, T, T, T, T, T, T, T, T, T, T, T, T, T, T, T, T, T, T, T, T, T, T, F, T, T, T,
+    T, T, T, T, T, T, T, T, T, T, T, T, T, T, T, T, T, T, T, T, T, T, T, T, T, T, T, T, T, T, T, T,
+];
+
+/// Where each character counts.
+static NOTHING: [bool; 128] = [
+    F, F, F, F, F, F, F, F, F, F, F, F, F, F, F, F, F, F, F, F, F, F, F, F, F, F, F, F, F, F, F, F,
+    F, F, F, F, F, F, F, F, F, F, F, F, F, F, F, F, F, F, F, F, F, F, F, F, F, F, F, F, F, F, F, F,
+    F, F, F, F, F, F, F, F, F, F, F, F, F, F, F, F, F, F, F, F, F, F, F, F, F, F, F, F, F, F, F, F,
+    F, F, F, F, F, F, F, F, F, F, F, F, F, F, F, F, F, F, F, F, F, F, F, F, F, F, F, F, F, F, F, F,
+];
