@@ -14,6 +14,8 @@ mod longest;
 mod marks;
 mod names;
 mod next;
+#[cfg(test)]
+mod piece_tests;
 mod places;
 mod runs;
 mod slices;

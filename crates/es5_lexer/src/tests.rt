@@ -5,7 +5,7 @@ use std::alloc::{AllocError, Global};
 use std::test::Fail;
 
 /// Texts whose slashes are divisions.
-const DIVIDING: [(&str, &[Token]); 117] = [
+pub(crate) const DIVIDING: [(&str, &[Token]); 117] = [
     (
         "{ 1 2 } 3",
         &[
@@ -291,7 +291,7 @@ const DIVIDING: [(&str, &[Token]); 117] = [
 ];
 
 /// Texts whose slashes begin regular expressions.
-const MATCHING: [(&str, &[Token]); 22] = [
+pub(crate) const MATCHING: [(&str, &[Token]); 22] = [
     ("a/b/c", &[Ident, Pattern]),
     ("/a/", &[Pattern]),
     ("/a/gi", &[Pattern]),
@@ -317,7 +317,7 @@ const MATCHING: [(&str, &[Token]); 22] = [
 ];
 
 /// Texts that have no token behind these, and more than trivia: slashes are divisions.
-const DIVIDING_STOPS: [(&str, &[Token]); 37] = [
+pub(crate) const DIVIDING_STOPS: [(&str, &[Token]); 37] = [
     ("08", &[]),
     ("09.5", &[]),
     ("3in", &[]),
@@ -358,7 +358,7 @@ const DIVIDING_STOPS: [(&str, &[Token]); 37] = [
 ];
 
 /// The same, where slashes begin regular expressions.
-const MATCHING_STOPS: [(&str, &[Token]); 9] = [
+pub(crate) const MATCHING_STOPS: [(&str, &[Token]); 9] = [
     ("/", &[]),
     ("/a", &[]),
     ("/a\n/", &[]),
@@ -371,7 +371,7 @@ const MATCHING_STOPS: [(&str, &[Token]); 9] = [
 ];
 
 /// Texts, and before which of their tokens a line has ended.
-const NEWLINES: [(&str, &[bool]); 15] = [
+pub(crate) const NEWLINES: [(&str, &[bool]); 15] = [
     ("a b", &[false, false]),
     ("a\nb", &[false, true]),
     ("\na", &[true]),
@@ -390,7 +390,7 @@ const NEWLINES: [(&str, &[bool]); 15] = [
 ];
 
 /// The tokens of the text up to the first place where none begins, and whether only trivia are left.
-fn lexed(alloc: Global, text: &str, goal: Goal) -> Result<(Vec<Lexeme>, bool), AllocError> {
+pub(crate) fn lexed(alloc: Global, text: &str, goal: Goal) -> Result<(Vec<Lexeme>, bool), AllocError> {
     let chars: Vec<char> = text.chars().collect(alloc)?;
     let mut found = Vec::new(alloc);
     let mut place = 0;
