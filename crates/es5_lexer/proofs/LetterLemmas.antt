@@ -3,7 +3,7 @@ use Rattle.std.proofs.Common.{◌≡◌, ℕ, zero, suc, ◌+◌, ◌≤◌, Boo
 use Rattle.std.proofs.lemmas.List.{take-append-le}
 use Rattle.std.proofs.lemmas.Bool.Decides.{nat_tests}
 use Rattle.es5_lexer.specs.Characters.{is_line_end, is_part, is_start, is_hex, escaped, is_escape_of, is_part_class, is_start_class}
-use Rattle.es5_lexer.specs.Names.{AreParts, spelled, spelled_escape, spelled_with, is_escaped, reserved_words, word_in, word_of, ident_of, token_by, name_token}
+use Rattle.es5_lexer.specs.Names.{AreParts, IsName, spelled, spelled_escape, spelled_with, is_escaped, reserved_words, word_in, word_of, ident_of, token_by, name_token}
 use Rattle.es5_lexer.specs.Places.{set_of, first, next, ended, is_dead, behind, behind_slash}
 use Rattle.es5_lexer.specs.Rests.{IsKind, kind_in, EscapeRest, MarkRest, Rest}
 use Rattle.es5_lexer.specs.Residuals.{onto, own, own_after, Leads, LeadsFrom, LeadsStart, is_dead_state, is_name_place, is_in_name}
@@ -29,8 +29,8 @@ use Rattle.es5_lexer.specs.declared.states.State.TheVariants.{Start, Slash, Line
 use Rattle.es5_lexer.proofs.Choices.{then_in, else_in, is_same, test_same, never, and_left, and_right}
 use Rattle.es5_lexer.proofs.ClassLemmas.{backslash}
 use Rattle.es5_lexer.proofs.EscapeLemmas.{escaped-none}
-use Rattle.es5_lexer.proofs.PlaceLemmas.{comes, escape_open, mark_letter, letter_one, one_two, two_three}
-use Rattle.es5_lexer.proofs.FirstLemmas.{first_comes}
+use Rattle.es5_lexer.proofs.PlaceLemmas.{goes, comes, escape_open, mark_letter, letter_one, one_two, two_three}
+use Rattle.es5_lexer.proofs.FirstLemmas.{first_goes, first_comes}
 use Rattle.es5_lexer.proofs.ListLemmas.{append-none}
 use Rattle.es5_lexer.proofs.TokenSteps.{first_backslash}
 
@@ -413,3 +413,32 @@ follow_in old new b s g c (Some k) t read e n x = absurd cc
 follow_in old new b s g c None t read e n x =
     subst (λ (d : State). Leads d g c None t → HeardAt old d (own d read) → HeardAt new t (own_after None (own d read) c)) (sym e)
     (λ leads heard. follow_on old new s g c t read x leads heard)
+
+-- a whole name, a character at a time
+
+-- what is left of a name behind the characters read
+pub record NameFrom (l : Letters) (place : Place) (rest text : List ℕ) : Type 0 where
+  pub read : List ℕ
+  pub hears : Hears l.letters.items l.escapes place read
+  pub whole : onto read rest ≡ text
+  pub completes : Rest place AName rest
+
+pub name_begins : (l : Letters) (g : Goal) (c : ℕ) (q : Place) (u : List ℕ) → Begins l c → q ≡ first g c → IsName (c ∷ u) → NameFrom l q u (c ∷ u)
+name_begins l g c q u x e h = record {
+  read = c ∷ [];
+  hears = begins_at l g c q x e;
+  whole = refl;
+  completes = subst (λ (p : Place). Rest p AName u) (sym e) (first_goes g AName c u h);
+}
+
+pub name_goes : (l m : Letters) (p q : Place) (c : ℕ) (u text : List ℕ) → NameFrom l p (c ∷ u) text → Reads l m p c → q ≡ next p c → NameFrom m q u text
+name_goes l m p q c u text h x e = record {
+  read = c ∷ h.read;
+  hears = subst (λ (y : Place). Hears m.letters.items m.escapes y (c ∷ h.read)) (sym e) (goes_on l.letters.items l.escapes p h.read c m.letters.items m.escapes x.letters x.escapes h.hears);
+  whole = h.whole;
+  completes = subst (λ (y : Place). Rest y AName u) (sym e) (goes p AName c u h.completes);
+}
+
+pub name_ends : (l : Letters) (p : Place) (text : List ℕ) → NameFrom l p [] text → token_of_letters l.escapes l.letters.items ≡ name_token text
+name_ends l p text h =
+    heard_token l.letters.items l.escapes p h.read h.hears h.completes ∙ ap name_token h.whole

@@ -5,7 +5,6 @@ pub mod PlaceLemmas
 pub mod FirstLemmas
 pub mod LongestLemmas
 pub mod ListLemmas
-pub mod SpellingLemmas
 pub mod TriviaLemmas
 pub mod TokenLemmas
 pub mod PassLemmas

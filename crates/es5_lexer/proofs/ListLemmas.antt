@@ -1,5 +1,5 @@
 -- Lists and their last members.
-use Rattle.std.proofs.Common.{◌≡◌, ℕ, ◌-◌, ◌≤◌, List, [], ◌∷◌, ◌++◌, length, take, drop, refl, ap, ◌∙◌, arith, length-append, length-drop}
+use Rattle.std.proofs.Common.{◌≡◌, ℕ, ◌-◌, ◌≤◌, List, [], ◌∷◌, ◌++◌, get_or, length, take, drop, refl, sym, ap, ◌∙◌, arith, length-append, length-drop}
 use Rattle.es5_lexer.specs.Reading.{last}
 
 drop_front : (a b : List ℕ) → drop (length a) (a ++ b) ≡ b
@@ -40,3 +40,14 @@ same_last [] b [] d e h = e
 same_last (m ∷ a) b (n ∷ c) d e h = let tail : a ++ b ≡ c ++ d = cc in same_last a b c d tail h
 same_last [] b (n ∷ c) d e h = absurd (omega (arith, ap length e, length-append c d))
 same_last (m ∷ a) b [] d e h = absurd (omega (arith, ap length e, length-append a b))
+
+-- a list by its first member and the others
+take_all : (u : List ℕ) → take (length u) u ≡ u
+take_all [] = refl
+take_all (c ∷ u) = ap (λ (w : List ℕ). c ∷ w) (take_all u)
+
+pub first_of : (w : List ℕ) (x : ℕ) → 1 ≤ length w → x ≡ get_or w 0 x → w ≡ x ∷ take (length w - 1) (drop 1 w)
+first_of [] x h e = absurd (omega arith)
+first_of (y ∷ w) x h e =
+    let same : length (y ∷ w) - 1 ≡ length w = omega arith in
+    ap (λ (z : ℕ). z ∷ w) (sym e) ∙ ap (λ (u : List ℕ). x ∷ u) (sym (take_all w)) ∙ ap (λ (n : ℕ). x ∷ take n w) (sym same)

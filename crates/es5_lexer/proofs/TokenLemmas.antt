@@ -394,3 +394,15 @@ longest-left g w x e = by_found (longest_token g w) (finds g w) e
         let same : y ≡ x = cc in
         let left : x.left ≡ length l.rest = ap (λ (z : Longest). z.left) (sym same) ∙ l.left in
         omega (arith, ap length l.splits, length-append l.others l.rest, left)
+
+pub longest-name : (g : Goal) (w : List ℕ) (x : Longest) → longest_token g w ≡ Some x → x.kind ≡ AName → IsName (take (length w - x.left) w)
+longest-name g w x e k = by_found (longest_token g w) (finds g w) e
+  where
+    by_found : (found : Option Longest) → Finds g w found → found ≡ Some x → IsName (take (length w - x.left) w)
+    by_found found (nothing f none) h = absurd cc
+    by_found found (longest y f l) h =
+        let same : y ≡ x = cc in
+        let left : x.left ≡ length l.rest = ap (λ (z : Longest). z.left) (sym same) ∙ l.left in
+        let kind : y.kind ≡ AName = ap (λ (z : Longest). z.kind) same ∙ k in
+        let name : IsKind g AName (l.first ∷ l.others) = subst (λ (z : Kind). IsKind g z (l.first ∷ l.others)) kind l.is in
+        subst IsName (sym (front-is w (l.first ∷ l.others) l.rest x.left l.splits left)) name

@@ -11,7 +11,6 @@ pub mod Suits
 pub mod Begins
 pub mod Places
 pub mod Rests
-pub mod Spelling
 pub mod Reading
 pub mod Residuals
 pub mod Letters

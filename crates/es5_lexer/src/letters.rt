@@ -4,14 +4,15 @@
 //! written by an escape, tell its token.
 ghost use Rattle.std.specs.Prelude.{◌≡◌, ℕ, List, false, ◌||◌, [], not, nat_lt, length};
 ghost use Rattle.es5_lexer.specs.Letters.{kept_letter, with_letter, letter, ends_escape, token_of_letters, HeardAt};
+ghost use Rattle.es5_lexer.specs.Names.{IsName, name_token};
 ghost use Rattle.es5_lexer.specs.Residuals.{Leads, own, own_after};
 ghost use Rattle.es5_lexer.specs.declared.tokens.Goal.{Goal};
 
 use crate::characters::escaped;
-use crate::names::name_of_letters;
+use crate::names::name_token;
 use crate::places::{Kind, Place, Seen};
 use crate::states::State;
-use crate::tokens::Token;
+use crate::tokens::{Goal, Token};
 use arrayvec::ArrayVec;
 
 /// The letters of a name.
@@ -39,7 +40,27 @@ impl Letters {
     pub(crate) fn token(&self) -> Token
         ensures { result ≡ token_of_letters self.now.escapes self.now.letters.items }
     {
-        name_of_letters(self.escapes, self.letters.as_slice())
+        name_token(self.escapes, self.letters.as_slice())
+    }
+
+    /// Those of a whole name.
+    pub(crate) fn of_name(text: &[char]) -> Letters
+        requires { IsName text.now }
+        ensures { token_of_letters result.escapes result.letters.items ≡ name_token text.now }
+    {
+        let mut letters = Letters::new();
+        let [first, others @ ..] = text else {
+            return letters;
+        };
+        letters.begin(*first);
+        let mut place = Place::first(Goal::Div, *first);
+        let mut rest = others;
+        'name: while let [c, others @ ..] = rest {
+            letters.read(place, *c);
+            place = place.next(*c);
+            rest = others;
+        }
+        letters
     }
 
     /// Whether all the letters that are kept of a name are there.

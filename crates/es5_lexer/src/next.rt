@@ -1,17 +1,17 @@
 //! Tokens on a slice of characters (ECMA-262 5.1, section 7): the plain form.
 ghost use Rattle.std.specs.Prelude.{◌≡◌, ◌≤◌, false, List, ℕ, drop, length, IfSome, IfNone, IsTrue, ◌↔◌, None, []};
-ghost use Rattle.es5_lexer.specs.Tokens.{is_barred, may_precede};
+ghost use Rattle.es5_lexer.specs.Names.{IsName};
+ghost use Rattle.es5_lexer.specs.Tokens.{may_precede};
 ghost use Rattle.es5_lexer.specs.Texts.{IsNextToken, Lexes, read_by};
 ghost use Rattle.es5_lexer.specs.Reading.{leading_trivium, Passes, token_of, token_at};
 ghost use Rattle.es5_lexer.specs.declared.tokens.Lexeme.{Lexeme};
 ghost use Rattle.es5_lexer.specs.declared.tokens.Goal.{Goal};
 
-use crate::characters::{is_digit, is_start};
 use crate::longest::{Longest, longest_token};
-use crate::names::name_token;
+use crate::letters::Letters;
 use crate::places::Kind;
 use crate::slices::{behind, last};
-use crate::tokens::{Goal, Lexeme, Punct, Token};
+use crate::tokens::{Goal, Lexeme, Token};
 use crate::trivia::leading_trivium;
 
 /// The first token at or behind the place, and the place behind it, where a slash is read by the goal;
@@ -62,9 +62,8 @@ fn token_at(text: &[char], goal: Goal) -> Option<(Token, usize)>
         return None;
     };
     let (front, rest) = text.split_at(text.len() - left);
-    let token = token_of(kind, front);
-    if may_precede(token, rest) {
-        Some((token, left))
+    if may_precede(kind, rest) {
+        Some((token_of(kind, front), left))
     } else {
         None
     }
@@ -72,10 +71,11 @@ fn token_at(text: &[char], goal: Goal) -> Option<(Token, usize)>
 
 /// The token of this text.
 fn token_of(kind: Kind, text: &[char]) -> Token
+    requires { kind ≡ Kind.Name → IsName text.now }
     ensures { result ≡ token_of kind text.now }
 {
     match kind {
-        Kind::Name => name_token(text),
+        Kind::Name => Letters::of_name(text).token(),
         Kind::Punct(p) => Token::Punct(p),
         Kind::Number => Token::Number,
         Kind::Text => Token::Text,
@@ -83,23 +83,12 @@ fn token_of(kind: Kind, text: &[char]) -> Token
     }
 }
 
-/// Whether the token may stand before this.
-fn may_precede(token: Token, rest: &[char]) -> bool
-    ensures { result ≡ may_precede token rest.now }
+/// Whether a token of the kind may stand before this.
+fn may_precede(kind: Kind, rest: &[char]) -> bool
+    ensures { (u : List ℕ) → result ≡ may_precede (token_of kind u) rest.now }
 {
     match rest {
-        [c, ..] => !is_barred(token, *c),
+        [c, ..] => !kind.bars(*c),
         [] => true,
-    }
-}
-
-/// Whether the character may not stand behind the token.
-fn is_barred(token: Token, c: char) -> bool
-    ensures { result ≡ is_barred token c }
-{
-    match token {
-        Token::Number => is_digit(c) || is_start(c) || c == '\\',
-        Token::Punct(Punct::Slash) => matches!(c, '/' | '*'),
-        _ => false,
     }
 }

@@ -4,4 +4,4 @@ use Rattle.es5_lexer.proofs.names.reserved_word.Goals as goal
 
 pub returns : goal.returns
 unfolding reserved_words
-returns c = c.word_among.ensures ∙ refl
+returns c = c.word_in.ensures ∙ refl
