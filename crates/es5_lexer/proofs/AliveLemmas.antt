@@ -8,10 +8,9 @@ use Rattle.es5_lexer.specs.Begins.{IsFront, is_open_escape, EndsInEscape, Begins
 use Rattle.es5_lexer.specs.Suits.{is_div}
 use Rattle.es5_lexer.specs.Texts.{Mark, mark, chars, read_by, ended_in, Lexes, LexesFrom}
 use Rattle.es5_lexer.specs.Places.{set_of, behind, is_dot, longer, first, behind_slash, behind_mark, mark as punct_of, next, next_by, next_in_parts, next_in_escape, ended, is_dead}
-use Rattle.es5_lexer.specs.Rests.{Rest}
+use Rattle.es5_lexer.specs.Rests.{with_seen, Rest}
 use Rattle.es5_lexer.specs.Reading.{token_of}
 use Rattle.es5_lexer.specs.Residuals.{onto, TokenFrom, LineFrom, BlockFrom, From, own, Leads, LeadsFrom, LeadsStart, is_dead_state}
-use Rattle.es5_lexer.specs.Letters.{behind_seen}
 use Rattle.es5_lexer.specs.Lexing.{Residual, EscapeAt, Within, HasRead}
 use Rattle.es5_lexer.specs.declared.tokens.Goal.{Goal}
 use Rattle.es5_lexer.specs.declared.tokens.Goal.TheVariants.{Div}
@@ -121,14 +120,14 @@ backslash_step (Token p) read f r c k t w end tokens h e l =
 pub within_step : (m : List Mark) (g : Goal) (c : ℕ) (t : State) → (IsFront (m ++ mark g 36 ∷ []) → c ≡ 92 → Within EscapeMark t) → ((seen : Seen) → EscapeAt seen m → Continues seen c → Within (next_seen seen c) t) → (later : Seen) → EscapeAt later (m ++ mark g c ∷ []) → Within later t
 within_step m g c t base step later h = by_digits (snoc_view h.digits)
   where
-    no_digits : (s : Seen) → [] ≡ behind_seen s [] → Within EscapeMark t → Within s t
+    no_digits : (s : Seen) → [] ≡ with_seen s [] → Within EscapeMark t → Within s t
     no_digits EscapeMark e w = w
     no_digits EscapeLetter e w = absurd cc
     no_digits (OneDigit a) e w = absurd cc
     no_digits (TwoDigits a b) e w = absurd cc
     no_digits (ThreeDigits a b d) e w = absurd cc
 
-    earlier : (s : Seen) (v : List Mark) → m ≡ h.before ++ h.backslash ∷ v → chars v ≡ behind_seen s [] → is_open_escape (behind_seen s []) ≡ true → EscapeAt s m
+    earlier : (s : Seen) (v : List Mark) → m ≡ h.before ++ h.backslash ∷ v → chars v ≡ with_seen s [] → is_open_escape (with_seen s []) ≡ true → EscapeAt s m
     earlier s v e i o = record {
       before = h.before;
       backslash = h.backslash;
@@ -140,7 +139,7 @@ within_step m g c t base step later h = by_digits (snoc_view h.digits)
       begins = h.begins;
     }
 
-    by_seen : (s : Seen) (v : List Mark) → m ≡ h.before ++ h.backslash ∷ v → chars v ++ c ∷ [] ≡ behind_seen s [] → is_open_escape (behind_seen s []) ≡ true → Within s t
+    by_seen : (s : Seen) (v : List Mark) → m ≡ h.before ++ h.backslash ∷ v → chars v ++ c ∷ [] ≡ with_seen s [] → is_open_escape (with_seen s []) ≡ true → Within s t
     by_seen EscapeMark v e i o = absurd (no_snoc (chars v) c i)
     by_seen EscapeLetter v e i o =
         let r = snoc_same (chars v) [] c 117 i in step EscapeMark (earlier EscapeMark v e r.0 refl) r.1
@@ -186,14 +185,14 @@ escape_on m seen g c h d = record {
   begins = h.begins;
 }
   where
-    more : (s : Seen) → Continues s c → behind_seen s [] ++ c ∷ [] ≡ behind_seen (next_seen s c) []
+    more : (s : Seen) → Continues s c → with_seen s [] ++ c ∷ [] ≡ with_seen (next_seen s c) []
     more EscapeMark e = ap (λ (x : ℕ). x ∷ []) e
     more EscapeLetter e = refl
     more (OneDigit a) e = refl
     more (TwoDigits a b) e = refl
     more (ThreeDigits a b x) e = absurd e
 
-    still : (s : Seen) → Continues s c → is_open_escape (behind_seen s []) ≡ true → is_open_escape (behind_seen (next_seen s c) []) ≡ true
+    still : (s : Seen) → Continues s c → is_open_escape (with_seen s []) ≡ true → is_open_escape (with_seen (next_seen s c) []) ≡ true
     still EscapeMark e o = refl
     still EscapeLetter e o = e
     still (OneDigit a) e o = and_both (is_hex a) (is_hex c) o e
@@ -600,7 +599,7 @@ alive_begins v m given h e = begins_at v.state h.read v.newline m (record {
 
 -- a lexer that is
 
-seen_of : (u : List ℕ) → is_open_escape u ≡ true → (seen : Seen) × (u ≡ behind_seen seen [])
+seen_of : (u : List ℕ) → is_open_escape u ≡ true → (seen : Seen) × (u ≡ with_seen seen [])
 seen_of [] o = (EscapeMark, refl)
 seen_of (c ∷ []) o = (EscapeLetter, ap (λ (x : ℕ). x ∷ []) (is_same c 117 o))
 seen_of (c ∷ a ∷ []) o = (OneDigit a, ap (λ (x : ℕ). x ∷ a ∷ []) (is_same c 117 (and_left _ _ o)))

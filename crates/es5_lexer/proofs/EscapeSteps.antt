@@ -16,10 +16,9 @@ use Rattle.es5_lexer.specs.Suits.{is_div}
 use Rattle.es5_lexer.specs.Strings.{quote_of}
 use Rattle.es5_lexer.specs.Texts.{Mark, mark, chars, LexesFrom}
 use Rattle.es5_lexer.specs.Places.{set_of, behind, is_dot, longer, first, behind_slash, next, next_by, next_in_parts, next_in_escape, next_in_number, next_in_exponent, next_in_whole, next_in_chars, next_in_text, next_in_body, next_in_class, next_in_pattern, ended, is_dead}
-use Rattle.es5_lexer.specs.Rests.{Rest}
+use Rattle.es5_lexer.specs.Rests.{with_seen, Rest}
 use Rattle.es5_lexer.specs.Reading.{token_of}
 use Rattle.es5_lexer.specs.Residuals.{onto, TokenFrom, From, own, Leads, LeadsFrom, LeadsStart, Dies, is_dead_state}
-use Rattle.es5_lexer.specs.Letters.{behind_seen}
 use Rattle.es5_lexer.specs.Lexing.{text_place, InPattern, Within}
 use Rattle.es5_lexer.specs.declared.tokens.Goal.{Goal}
 use Rattle.es5_lexer.specs.declared.tokens.Punct.{Punct}

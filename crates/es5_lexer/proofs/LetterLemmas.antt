@@ -5,9 +5,9 @@ use Rattle.std.proofs.lemmas.Bool.Decides.{nat_tests}
 use Rattle.es5_lexer.specs.Characters.{is_line_end, is_part, is_start, is_hex, escaped, is_escape_of, is_part_class, is_start_class}
 use Rattle.es5_lexer.specs.Names.{AreParts, IsName, spelled, spelled_escape, spelled_with, is_escaped, reserved_words, word_in, word_of, ident_of, token_by, name_token}
 use Rattle.es5_lexer.specs.Places.{set_of, first, next, ended, is_dead, behind, behind_slash}
-use Rattle.es5_lexer.specs.Rests.{IsKind, kind_in, EscapeRest, MarkRest, Rest}
+use Rattle.es5_lexer.specs.Rests.{IsKind, kind_in, with_seen, EscapeRest, MarkRest, Rest}
 use Rattle.es5_lexer.specs.Residuals.{onto, own, own_after, Leads, LeadsFrom, LeadsStart, is_dead_state, is_name_place, is_in_name}
-use Rattle.es5_lexer.specs.Letters.{kept_letter, kept, with_letter, letter, ends_escape, token_of_letters, behind_seen, spelled_from, escaped_from, Spells, Hears, HeardAt}
+use Rattle.es5_lexer.specs.Letters.{kept_letter, kept, with_letter, letter, ends_escape, token_of_letters, spelled_from, escaped_from, Spells, Hears, HeardAt}
 use Rattle.es5_lexer.specs.declared.tokens.Goal.{Goal}
 use Rattle.es5_lexer.specs.declared.tokens.Word.{Word}
 use Rattle.es5_lexer.specs.Suits.{is_div}
@@ -29,7 +29,7 @@ use Rattle.es5_lexer.specs.declared.states.State.TheVariants.{Start, Slash, Line
 use Rattle.es5_lexer.proofs.Choices.{then_in, else_in, is_same, test_same, never, and_left, and_right}
 use Rattle.es5_lexer.proofs.ClassLemmas.{backslash}
 use Rattle.es5_lexer.proofs.EscapeLemmas.{escaped-none}
-use Rattle.es5_lexer.proofs.PlaceLemmas.{goes, comes, escape_open, mark_letter, letter_one, one_two, two_three}
+use Rattle.es5_lexer.proofs.PlaceLemmas.{goes, comes, escape_open, mark_is, first_hex, second_hex, third_hex}
 use Rattle.es5_lexer.proofs.FirstLemmas.{first_goes, first_comes}
 use Rattle.es5_lexer.proofs.ListLemmas.{append-none}
 use Rattle.es5_lexer.proofs.TokenSteps.{first_backslash}
@@ -129,26 +129,26 @@ last_letter LaterChar a b d c u (Some n) k e f = record {
 }
 
 -- a digit of an escape, not the last one
-digit_letter : (host : Host) (seen later : Seen) (c : ℕ) (u : List ℕ) (b : Bool) → b ≡ true → spelled_escape (behind_seen seen (c ∷ u)) ≡ spelled_escape (behind_seen later u) → (spelled_escape (behind_seen seen (c ∷ u)) ≡ spelled_from (if b then Escape host later else Dead) u) × (true ≡ escaped_from (if b then Escape host later else Dead) u)
+digit_letter : (host : Host) (seen later : Seen) (c : ℕ) (u : List ℕ) (b : Bool) → b ≡ true → spelled_escape (with_seen seen (c ∷ u)) ≡ spelled_escape (with_seen later u) → (spelled_escape (with_seen seen (c ∷ u)) ≡ spelled_from (if b then Escape host later else Dead) u) × (true ≡ escaped_from (if b then Escape host later else Dead) u)
 digit_letter host seen later c u true e f = (f, refl)
 digit_letter host seen later c u false e f = absurd cc
 
 escape_letter : (host : Host) (seen : Seen) (c : ℕ) (u : List ℕ) → AName ≡ kind_in host → EscapeRest host seen (c ∷ u) → Letter (Escape host seen) c u
 unfolding before
 escape_letter host EscapeMark c u k h =
-    let e = (mark_letter host c u h).0 in
+    let e = mark_is (set_of host) c u h in
     let d = digit_letter host EscapeMark EscapeLetter c u (c == 117) (test_same c 117 e) (ap (λ (x : ℕ). spelled_escape (x ∷ u)) e) in
     record { spells = d.0; marks = d.1 }
 escape_letter host EscapeLetter c u k h =
-    let d = digit_letter host EscapeLetter (OneDigit c) c u (is_hex c) (letter_one host c u h).0 refl in
+    let d = digit_letter host EscapeLetter (OneDigit c) c u (is_hex c) (first_hex (set_of host) c u h) refl in
     record { spells = d.0; marks = d.1 }
 escape_letter host (OneDigit a) c u k h =
-    let d = digit_letter host (OneDigit a) (TwoDigits a c) c u (is_hex c) (one_two host a c u h).0 refl in
+    let d = digit_letter host (OneDigit a) (TwoDigits a c) c u (is_hex c) (second_hex (set_of host) a c u h) refl in
     record { spells = d.0; marks = d.1 }
 escape_letter host (TwoDigits a b) c u k h =
-    let d = digit_letter host (TwoDigits a b) (ThreeDigits a b c) c u (is_hex c) (two_three host a b c u h).0 refl in
+    let d = digit_letter host (TwoDigits a b) (ThreeDigits a b c) c u (is_hex c) (third_hex (set_of host) a b c u h) refl in
     record { spells = d.0; marks = d.1 }
-escape_letter host (ThreeDigits a b d) c u k h = last_letter host a b d c u (escaped a b d c) k h.0 refl
+escape_letter host (ThreeDigits a b d) c u k h = last_letter host a b d c u (escaped a b d c) k h.1 refl
 
 letter_of : (s : Place) (c : ℕ) (u : List ℕ) → Rest s AName (c ∷ u) → Letter s c u
 letter_of Name c u h = name_letter c u h.1

@@ -7,7 +7,7 @@ use Rattle.es5_lexer.specs.Numbers.{is_exponent_mark, is_hex_mark, is_sign}
 use Rattle.es5_lexer.specs.Strings.{quote_of, IsStringRest, IsBehindEscape}
 use Rattle.es5_lexer.specs.Patterns.{IsBody, IsBodyRest, IsClassRest}
 use Rattle.es5_lexer.specs.Places.{set_of, behind, is_dot, longer, next, next_by, next_in_parts, next_in_escape, next_in_number, next_in_exponent, next_in_chars, behind_text_escape, next_in_text, next_in_body, next_in_pattern, ended}
-use Rattle.es5_lexer.specs.Rests.{kind_in, LetterRest, OneRest, TwoRest, ThreeRest, EscapeRest, MarkRest, NumberRest, TextRest, PatternRest, Rest}
+use Rattle.es5_lexer.specs.Rests.{kind_in, EscapeRest, MarkRest, NumberRest, TextRest, PatternRest, Rest}
 use Rattle.es5_lexer.specs.declared.tokens.Punct.{Punct}
 use Rattle.es5_lexer.specs.declared.tokens.Punct.TheVariants.{Dot}
 use Rattle.es5_lexer.specs.declared.places.Kind.{Kind}
@@ -65,80 +65,56 @@ parts_come host k c u same h =
 
 -- the digits of an escape, one by one
 
-pub letter_one : (host : Host) (a : ℕ) (u : List ℕ) → LetterRest host (a ∷ u) → (is_hex a ≡ true) × OneRest host a u
-letter_one host a [] h = absurd h
-letter_one host a (b ∷ []) h = absurd h
-letter_one host a (b ∷ c ∷ []) h = absurd h
-letter_one host a (b ∷ c ∷ d ∷ u) h =
-    (and_left (is_hex a) (is_hex b) (and_left (is_hex a && is_hex b) (is_hex c && is_hex d) (and_left _ _ h.0)), h)
+pub mark_is : (set : ℕ → Bool) (x : ℕ) (u : List ℕ) → AreEscaped set (x ∷ u) → x ≡ 117
+mark_is set x [] h = absurd h
+mark_is set x (a ∷ []) h = absurd h
+mark_is set x (a ∷ b ∷ []) h = absurd h
+mark_is set x (a ∷ b ∷ c ∷ []) h = absurd h
+mark_is set x (a ∷ b ∷ c ∷ d ∷ u) h = h.0
 
-one_letter : (host : Host) (a : ℕ) (u : List ℕ) → OneRest host a u → LetterRest host (a ∷ u)
-one_letter host a [] h = absurd h
-one_letter host a (b ∷ []) h = absurd h
-one_letter host a (b ∷ c ∷ []) h = absurd h
-one_letter host a (b ∷ c ∷ d ∷ u) h = h
+pub first_hex : (set : ℕ → Bool) (a : ℕ) (u : List ℕ) → AreEscaped set (117 ∷ a ∷ u) → is_hex a ≡ true
+first_hex set a [] h = absurd h
+first_hex set a (b ∷ []) h = absurd h
+first_hex set a (b ∷ c ∷ []) h = absurd h
+first_hex set a (b ∷ c ∷ d ∷ u) h =
+    and_left (is_hex a) (is_hex b) (and_left (is_hex a && is_hex b) (is_hex c && is_hex d) (and_left _ _ h.1))
 
-pub one_two : (host : Host) (a b : ℕ) (u : List ℕ) → OneRest host a (b ∷ u) → (is_hex b ≡ true) × TwoRest host a b u
-one_two host a b [] h = absurd h
-one_two host a b (c ∷ []) h = absurd h
-one_two host a b (c ∷ d ∷ u) h =
-    (and_right (is_hex a) (is_hex b) (and_left (is_hex a && is_hex b) (is_hex c && is_hex d) (and_left _ _ h.0)), h)
+pub second_hex : (set : ℕ → Bool) (a b : ℕ) (u : List ℕ) → AreEscaped set (117 ∷ a ∷ b ∷ u) → is_hex b ≡ true
+second_hex set a b [] h = absurd h
+second_hex set a b (c ∷ []) h = absurd h
+second_hex set a b (c ∷ d ∷ u) h =
+    and_right (is_hex a) (is_hex b) (and_left (is_hex a && is_hex b) (is_hex c && is_hex d) (and_left _ _ h.1))
 
-two_one : (host : Host) (a b : ℕ) (u : List ℕ) → TwoRest host a b u → OneRest host a (b ∷ u)
-two_one host a b [] h = absurd h
-two_one host a b (c ∷ []) h = absurd h
-two_one host a b (c ∷ d ∷ u) h = h
-
-pub two_three : (host : Host) (a b c : ℕ) (u : List ℕ) → TwoRest host a b (c ∷ u) → (is_hex c ≡ true) × ThreeRest host a b c u
-two_three host a b c [] h = absurd h
-two_three host a b c (d ∷ u) h =
-    (and_left (is_hex c) (is_hex d) (and_right (is_hex a && is_hex b) (is_hex c && is_hex d) (and_left _ _ h.0)), h)
-
-three_two : (host : Host) (a b c : ℕ) (u : List ℕ) → ThreeRest host a b c u → TwoRest host a b (c ∷ u)
-three_two host a b c [] h = absurd h
-three_two host a b c (d ∷ u) h = h
-
-pub mark_letter : (host : Host) (x : ℕ) (u : List ℕ) → AreEscaped (set_of host) (x ∷ u) → (x ≡ 117) × LetterRest host u
-mark_letter host x [] h = absurd h
-mark_letter host x (a ∷ []) h = absurd h
-mark_letter host x (a ∷ b ∷ []) h = absurd h
-mark_letter host x (a ∷ b ∷ c ∷ []) h = absurd h
-mark_letter host x (a ∷ b ∷ c ∷ d ∷ u) h = (h.0, (h.1, h.2))
-
-letter_mark : (host : Host) (x : ℕ) (u : List ℕ) → x ≡ 117 → LetterRest host u → AreEscaped (set_of host) (x ∷ u)
-letter_mark host x [] e h = absurd h
-letter_mark host x (a ∷ []) e h = absurd h
-letter_mark host x (a ∷ b ∷ []) e h = absurd h
-letter_mark host x (a ∷ b ∷ c ∷ []) e h = absurd h
-letter_mark host x (a ∷ b ∷ c ∷ d ∷ u) e h = (e, h.0, h.1)
+pub third_hex : (set : ℕ → Bool) (a b c : ℕ) (u : List ℕ) → AreEscaped set (117 ∷ a ∷ b ∷ c ∷ u) → is_hex c ≡ true
+third_hex set a b c [] h = absurd h
+third_hex set a b c (d ∷ u) h =
+    and_left (is_hex c) (is_hex d) (and_right (is_hex a && is_hex b) (is_hex c && is_hex d) (and_left _ _ h.1))
 
 escape_goes : (host : Host) (seen : Seen) (k : Kind) (c : ℕ) (u : List ℕ) → k ≡ kind_in host → EscapeRest host seen (c ∷ u) → Rest (next_in_escape host seen c) k u
 escape_goes host EscapeMark k c u e h =
-    let r = mark_letter host c u h in then_in (At k u) (c == 117) _ _ (test_same c 117 r.0) (e, r.1)
-escape_goes host EscapeLetter k c u e h =
-    let r = letter_one host c u h in then_in (At k u) (is_hex c) _ _ r.0 (e, r.1)
-escape_goes host (OneDigit a) k c u e h =
-    let r = one_two host a c u h in then_in (At k u) (is_hex c) _ _ r.0 (e, r.1)
-escape_goes host (TwoDigits a b) k c u e h =
-    let r = two_three host a b c u h in then_in (At k u) (is_hex c) _ _ r.0 (e, r.1)
+    let m = mark_is (set_of host) c u h in
+    then_in (At k u) (c == 117) _ _ (test_same c 117 m) (e, subst (λ (x : ℕ). AreEscaped (set_of host) (x ∷ u)) m h)
+escape_goes host EscapeLetter k c u e h = then_in (At k u) (is_hex c) _ _ (first_hex (set_of host) c u h) (e, h)
+escape_goes host (OneDigit a) k c u e h = then_in (At k u) (is_hex c) _ _ (second_hex (set_of host) a c u h) (e, h)
+escape_goes host (TwoDigits a b) k c u e h = then_in (At k u) (is_hex c) _ _ (third_hex (set_of host) a b c u h) (e, h)
 escape_goes host (ThreeDigits a b d) k c u e h =
-    then_in (At k u) (is_escape_of (set_of host) a b d c) _ _ h.0 (behind_host host k u e h.1)
+    then_in (At k u) (is_escape_of (set_of host) a b d c) _ _ h.1 (behind_host host k u e h.2)
 
 escape_comes : (host : Host) (seen : Seen) (k : Kind) (c : ℕ) (u : List ℕ) → Rest (next_in_escape host seen c) k u → (k ≡ kind_in host) × EscapeRest host seen (c ∷ u)
 escape_comes host EscapeMark k c u h =
     elim (split (At k u) (c == 117) _ _ h) [
-      | inl (t, (e, r)) ↦ (e, letter_mark host c u (is_same c 117 t) r)
+      | inl (t, (e, r)) ↦ (e, subst (λ (x : ℕ). AreEscaped (set_of host) (x ∷ u)) (sym (is_same c 117 t)) r)
       | inr (_, z) ↦ absurd z
     ]
 escape_comes host EscapeLetter k c u h =
-    elim (split (At k u) (is_hex c) _ _ h) [ inl (t, (e, r)) ↦ (e, one_letter host c u r) | inr (_, z) ↦ absurd z ]
+    elim (split (At k u) (is_hex c) _ _ h) [ inl (t, (e, r)) ↦ (e, r) | inr (_, z) ↦ absurd z ]
 escape_comes host (OneDigit a) k c u h =
-    elim (split (At k u) (is_hex c) _ _ h) [ inl (t, (e, r)) ↦ (e, two_one host a c u r) | inr (_, z) ↦ absurd z ]
+    elim (split (At k u) (is_hex c) _ _ h) [ inl (t, (e, r)) ↦ (e, r) | inr (_, z) ↦ absurd z ]
 escape_comes host (TwoDigits a b) k c u h =
-    elim (split (At k u) (is_hex c) _ _ h) [ inl (t, (e, r)) ↦ (e, three_two host a b c u r) | inr (_, z) ↦ absurd z ]
+    elim (split (At k u) (is_hex c) _ _ h) [ inl (t, (e, r)) ↦ (e, r) | inr (_, z) ↦ absurd z ]
 escape_comes host (ThreeDigits a b d) k c u h =
     elim (split (At k u) (is_escape_of (set_of host) a b d c) _ _ h) [
-      | inl (t, r) ↦ let b = host_behind host k u r in (b.0, (t, b.1))
+      | inl (t, r) ↦ let b = host_behind host k u r in (b.0, (refl, t, b.1))
       | inr (_, z) ↦ absurd z
     ]
 

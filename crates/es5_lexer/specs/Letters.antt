@@ -3,7 +3,7 @@
 use Rattle.std.specs.Prelude.{◌≡◌, ℕ, Bool, true, false, ◌||◌, ◌==◌, nat_lt, if◌then◌else◌, Option, Some, None, List, [], ◌∷◌, ◌++◌, length, map, take}
 use Rattle.es5_lexer.specs.Characters.{escaped}
 use Rattle.es5_lexer.specs.Names.{spelled, spelled_escape, is_escaped, word_of, token_by}
-use Rattle.es5_lexer.specs.Rests.{Rest}
+use Rattle.es5_lexer.specs.Rests.{with_seen, Rest}
 use Rattle.es5_lexer.specs.Residuals.{onto}
 use Rattle.es5_lexer.specs.declared.tokens.Token.{Token as AToken}
 use Rattle.es5_lexer.specs.declared.tokens.Token.TheVariants.{Punct, Number, Text, Pattern}
@@ -12,8 +12,7 @@ use Rattle.es5_lexer.specs.declared.places.Kind.{Kind}
 use Rattle.es5_lexer.specs.declared.places.Kind.TheVariants.{Name as AName, Punct as APunct, Number as ANumber, Text as AText, Pattern as APattern}
 use Rattle.es5_lexer.specs.declared.places.Place.{Place}
 use Rattle.es5_lexer.specs.declared.places.Place.TheVariants.{Name, Escape}
-use Rattle.es5_lexer.specs.declared.places.Seen.{Seen}
-use Rattle.es5_lexer.specs.declared.places.Seen.TheVariants.{EscapeMark, EscapeLetter, OneDigit, TwoDigits, ThreeDigits}
+use Rattle.es5_lexer.specs.declared.places.Seen.TheVariants.{ThreeDigits}
 use Rattle.es5_lexer.specs.declared.letters.Letters.{Letters}
 use Rattle.es5_lexer.specs.declared.states.State.{State}
 use Rattle.es5_lexer.specs.declared.states.State.TheVariants.{Token}
@@ -46,17 +45,9 @@ ends_escape _ = false
 abbrev pub token_of_letters : Bool → List ℕ → AToken
 token_of_letters escapes v = token_by escapes (word_of v) v
 
--- what was read of an escape behind its `\`, before what follows
-abbrev pub behind_seen : Seen → List ℕ → List ℕ
-behind_seen EscapeMark u = u
-behind_seen EscapeLetter u = 117 ∷ u
-behind_seen (OneDigit a) u = 117 ∷ a ∷ u
-behind_seen (TwoDigits a b) u = 117 ∷ a ∷ b ∷ u
-behind_seen (ThreeDigits a b d) u = 117 ∷ a ∷ b ∷ d ∷ u
-
 -- what the rest of a name spells
 abbrev pub spelled_from : Place → List ℕ → List ℕ
-spelled_from (Escape host seen) u = spelled_escape (behind_seen seen u)
+spelled_from (Escape host seen) u = spelled_escape (with_seen seen u)
 spelled_from _ u = spelled u
 
 abbrev pub escaped_from : Place → List ℕ → Bool

@@ -3,7 +3,8 @@ use Rattle.std.specs.Prelude.{◌≡◌, ℕ, true, List, [], ◌∷◌, ◌++�
 use Rattle.es5_lexer.specs.Texts.{Mark, mark, chars, Lexes}
 use Rattle.es5_lexer.specs.Begins.{IsFront, is_open_escape}
 use Rattle.es5_lexer.specs.Residuals.{GoesOn, own}
-use Rattle.es5_lexer.specs.Letters.{behind_seen, HeardAt}
+use Rattle.es5_lexer.specs.Rests.{with_seen}
+use Rattle.es5_lexer.specs.Letters.{HeardAt}
 use Rattle.es5_lexer.specs.declared.tokens.Goal.{Goal}
 use Rattle.es5_lexer.specs.declared.tokens.Lexeme.{Lexeme}
 use Rattle.es5_lexer.specs.declared.places.Place.TheVariants.{Escape, Text, Pattern}
@@ -33,8 +34,8 @@ pub record EscapeAt (seen : Seen) (m : List Mark) : Type 0 where
   pub digits : List Mark
   pub splits : m ≡ before ++ backslash ∷ digits
   pub is_backslash : backslash.character ≡ 92
-  pub spells : chars digits ≡ behind_seen seen []
-  pub is_open : is_open_escape (behind_seen seen []) ≡ true
+  pub spells : chars digits ≡ with_seen seen []
+  pub is_open : is_open_escape (with_seen seen []) ≡ true
   pub begins : IsFront (before ++ mark backslash.reading 36 ∷ [])
 
 -- where such an escape leaves a string

@@ -1,11 +1,11 @@
 -- What may still come at each place in a token of some kind.
 use Rattle.std.specs.Prelude.{◌≡◌, ℕ, true, false, Some, List, [], ◌∷◌, ◌⊎◌}
-use Rattle.es5_lexer.specs.Characters.{is_digit, is_escape_of}
+use Rattle.es5_lexer.specs.Characters.{is_digit}
 use Rattle.es5_lexer.specs.Suits.{is_div}
 use Rattle.es5_lexer.specs.Names.{AreParts, AreEscaped, IsName}
 use Rattle.es5_lexer.specs.Punctuators.{spelling, is_under}
 use Rattle.es5_lexer.specs.Numbers.{AreDigits, AreSomeDigits, IsSignedInteger, IsBehindPoint, IsBehindDigit, IsBehindZero, AreHexDigits, AreSomeHexDigits, AreOctalDigits, IsNumber}
-use Rattle.es5_lexer.specs.Strings.{IsStringRest, IsBehindEscape, IsLfThen, IsHex1Then, IsHex2Then, IsHex3Then, IsHex4Then, IsString}
+use Rattle.es5_lexer.specs.Strings.{IsStringRest, IsBehindEscape, IsLfThen, AreHexThen, IsString}
 use Rattle.es5_lexer.specs.Patterns.{IsBodyRest, IsBehindBackslash, IsClassRest, IsBehindClassBackslash, IsBody, IsPattern}
 use Rattle.es5_lexer.specs.Places.{set_of, longer}
 use Rattle.es5_lexer.specs.declared.tokens.Goal.{Goal}
@@ -43,28 +43,17 @@ kind_in FirstChar = AName
 kind_in LaterChar = AName
 kind_in FlagChar = APattern
 
-abbrev pub LetterRest : Host → List ℕ → Type 0
-LetterRest host (a ∷ b ∷ c ∷ d ∷ u) = (is_escape_of (set_of host) a b c d ≡ true) × AreParts u
-LetterRest host _ = ⊥
+-- what was read of an escape after its `\`, before what follows
+abbrev pub with_seen : Seen → List ℕ → List ℕ
+with_seen EscapeMark u = u
+with_seen EscapeLetter u = 117 ∷ u
+with_seen (OneDigit a) u = 117 ∷ a ∷ u
+with_seen (TwoDigits a b) u = 117 ∷ a ∷ b ∷ u
+with_seen (ThreeDigits a b c) u = 117 ∷ a ∷ b ∷ c ∷ u
 
-abbrev pub OneRest : Host → ℕ → List ℕ → Type 0
-OneRest host a (b ∷ c ∷ d ∷ u) = (is_escape_of (set_of host) a b c d ≡ true) × AreParts u
-OneRest host a _ = ⊥
-
-abbrev pub TwoRest : Host → ℕ → ℕ → List ℕ → Type 0
-TwoRest host a b (c ∷ d ∷ u) = (is_escape_of (set_of host) a b c d ≡ true) × AreParts u
-TwoRest host a b _ = ⊥
-
-abbrev pub ThreeRest : Host → ℕ → ℕ → ℕ → List ℕ → Type 0
-ThreeRest host a b c (d ∷ u) = (is_escape_of (set_of host) a b c d ≡ true) × AreParts u
-ThreeRest host a b c _ = ⊥
-
+-- in an escape: its rest, and then name parts
 abbrev pub EscapeRest : Host → Seen → List ℕ → Type 0
-EscapeRest host EscapeMark u = AreEscaped (set_of host) u
-EscapeRest host EscapeLetter u = LetterRest host u
-EscapeRest host (OneDigit a) u = OneRest host a u
-EscapeRest host (TwoDigits a b) u = TwoRest host a b u
-EscapeRest host (ThreeDigits a b c) u = ThreeRest host a b c u
+EscapeRest host seen u = AreEscaped (set_of host) (with_seen seen u)
 
 -- behind a whole punctuator: the rest of a longer one, or of a number that begins with a point
 abbrev pub MarkRest : Punct → Kind → List ℕ → Type 0
@@ -84,17 +73,18 @@ NumberRest HexMark u = AreSomeHexDigits u
 NumberRest HexDigit u = AreHexDigits u
 NumberRest OctalDigit u = AreOctalDigits u
 
-abbrev pub HexRest : Quote → Left → List ℕ → Type 0
-HexRest q One u = IsHex1Then q u
-HexRest q Two u = IsHex2Then q u
-HexRest q Three u = IsHex3Then q u
-HexRest q Four u = IsHex4Then q u
+-- how many digits are missing behind the next one
+abbrev pub further : Left → ℕ
+further One = 0
+further Two = 1
+further Three = 2
+further Four = 3
 
 abbrev pub TextRest : Quote → TextPlace → List ℕ → Type 0
 TextRest q Chars u = IsStringRest q u
 TextRest q TextEscape u = IsBehindEscape q u
 TextRest q Cr u = IsStringRest q u ⊎ IsLfThen q u
-TextRest q (Hex left) u = HexRest q left u
+TextRest q (Hex left) u = AreHexThen (further left) q u
 TextRest q End u = u ≡ []
 
 abbrev pub PatternRest : PatternPlace → List ℕ → Type 0

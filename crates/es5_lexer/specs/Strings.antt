@@ -10,7 +10,7 @@
 -- A digit may stand behind `\` whatever follows it (B.1.2 has the octal ones, and this grammar also
 -- takes 8 and 9). A CR and the LF behind it are one LineTerminatorSequence; since no LF stands in a
 -- string but behind `\` or that CR, nothing need be said of a CR alone.
-use Rattle.std.specs.Prelude.{◌≡◌, ℕ, Bool, true, ◌||◌, not, List, [], ◌∷◌, ◌==◌, ◌⊎◌}
+use Rattle.std.specs.Prelude.{◌≡◌, ℕ, zero, suc, Bool, true, ◌||◌, not, List, [], ◌∷◌, ◌==◌, ◌⊎◌}
 use Rattle.es5_lexer.specs.Characters.{is_line_end, is_hex}
 use Rattle.es5_lexer.specs.declared.places.Quote.{Quote}
 use Rattle.es5_lexer.specs.declared.places.Quote.TheVariants.{Double, Single}
@@ -40,8 +40,8 @@ abbrev mutual
   pub IsBehindEscape : Quote → List ℕ → Type 0
   IsBehindEscape q [] = ⊥
   IsBehindEscape q (c ∷ u) =
-      ((c ≡ 120) × IsHex2Then q u)
-      ⊎ (((c ≡ 117) × IsHex4Then q u)
+      ((c ≡ 120) × AreHexThen 1 q u)
+      ⊎ (((c ≡ 117) × AreHexThen 3 q u)
       ⊎ (((c ≡ 13) × (IsStringRest q u ⊎ IsLfThen q u)) ⊎ ((is_single_escape c ≡ true) × IsStringRest q u)))
 
   -- the LF of a CR LF, and the rest
@@ -49,22 +49,11 @@ abbrev mutual
   IsLfThen q [] = ⊥
   IsLfThen q (c ∷ u) = (c ≡ 10) × IsStringRest q u
 
-  -- hexadecimal digits, so many, and the rest
-  pub IsHex1Then : Quote → List ℕ → Type 0
-  IsHex1Then q [] = ⊥
-  IsHex1Then q (c ∷ u) = (is_hex c ≡ true) × IsStringRest q u
-
-  pub IsHex2Then : Quote → List ℕ → Type 0
-  IsHex2Then q [] = ⊥
-  IsHex2Then q (c ∷ u) = (is_hex c ≡ true) × IsHex1Then q u
-
-  pub IsHex3Then : Quote → List ℕ → Type 0
-  IsHex3Then q [] = ⊥
-  IsHex3Then q (c ∷ u) = (is_hex c ≡ true) × IsHex2Then q u
-
-  pub IsHex4Then : Quote → List ℕ → Type 0
-  IsHex4Then q [] = ⊥
-  IsHex4Then q (c ∷ u) = (is_hex c ≡ true) × IsHex3Then q u
+  -- a hexadecimal digit and so many more, and the rest
+  pub AreHexThen : ℕ → Quote → List ℕ → Type 0
+  AreHexThen n q [] = ⊥
+  AreHexThen zero q (c ∷ u) = (is_hex c ≡ true) × IsStringRest q u
+  AreHexThen (suc n) q (c ∷ u) = (is_hex c ≡ true) × AreHexThen n q u
 
 -- StringLiteral
 abbrev pub IsString : List ℕ → Type 0
