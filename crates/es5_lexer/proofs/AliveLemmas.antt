@@ -1,20 +1,20 @@
 -- A lexer is dead exactly where the characters read don't begin a text with tokens.
 use Rattle.std.proofs.Common.{◌≡◌, ℕ, Bool, true, false, ◌&&◌, ◌||◌, not, ◌==◌, if◌then◌else◌, Option, Some, None, List, [], ◌∷◌, ◌++◌, ◌⊎◌, inl, inr, ◌↔◌, refl, sym, ap, subst, ◌∙◌, append_assoc, IsTrue}
-use Rattle.es5_lexer.specs.Characters.{is_start, is_part, is_digit, is_hex, is_octal, is_line_end, is_escape_of, is_line_end_class, is_part_class}
+use Rattle.es5_lexer.specs.Characters.{is_start, is_part, is_digit, is_hex, is_octal, is_line_end, is_escape_of, is_line_end_class}
 use Rattle.es5_lexer.specs.Numbers.{is_nonzero, is_exponent_mark, is_hex_mark, is_sign}
 use Rattle.es5_lexer.specs.Strings.{quote_of, IsStringRest}
-use Rattle.es5_lexer.specs.Tokens.{is_barred, may_precede}
+use Rattle.es5_lexer.specs.Tokens.{is_barred}
 use Rattle.es5_lexer.specs.Begins.{IsFront, is_open_escape, EndsInEscape, Begins}
 use Rattle.es5_lexer.specs.Suits.{is_div}
-use Rattle.es5_lexer.specs.Texts.{Mark, mark, chars, read_by, ended_in, Lexes, LexesFrom}
+use Rattle.es5_lexer.specs.Texts.{Mark, mark, chars, read_by, ended_in, LexesFrom}
 use Rattle.es5_lexer.specs.Places.{set_of, behind, is_dot, longer, first, behind_slash, behind_mark, mark as punct_of, next, next_by, next_in_parts, next_in_escape, ended, is_dead}
 use Rattle.es5_lexer.specs.Rests.{with_seen, Rest}
 use Rattle.es5_lexer.specs.Reading.{token_of}
-use Rattle.es5_lexer.specs.Residuals.{onto, TokenFrom, LineFrom, BlockFrom, From, own, Leads, LeadsFrom, LeadsStart, is_dead_state}
-use Rattle.es5_lexer.specs.Lexing.{Residual, EscapeAt, Within, HasRead}
+use Rattle.es5_lexer.specs.Residuals.{onto, TokenFrom, From, own, Leads, LeadsFrom, is_dead_state}
+use Rattle.es5_lexer.specs.Lexing.{EscapeAt, Within, HasRead}
 use Rattle.es5_lexer.specs.declared.tokens.Goal.{Goal}
 use Rattle.es5_lexer.specs.declared.tokens.Goal.TheVariants.{Div}
-use Rattle.es5_lexer.specs.declared.tokens.Token.TheVariants.{Ident, Punct as TPunct}
+use Rattle.es5_lexer.specs.declared.tokens.Token.TheVariants.{Punct as TPunct}
 use Rattle.es5_lexer.specs.declared.tokens.Punct.{Punct}
 use Rattle.es5_lexer.specs.declared.tokens.Punct.TheVariants.{Slash as TheSlash}
 use Rattle.es5_lexer.specs.declared.tokens.Lexeme.{Lexeme}
@@ -34,7 +34,6 @@ use Rattle.es5_lexer.specs.declared.places.Quote.TheVariants.{Double, Single}
 use Rattle.es5_lexer.specs.declared.places.TextPlace.{TextPlace}
 use Rattle.es5_lexer.specs.declared.places.TextPlace.TheVariants.{Chars, TextEscape, Cr, Hex, End}
 use Rattle.es5_lexer.specs.declared.places.Left.TheVariants.{One, Two, Three, Four}
-use Rattle.es5_lexer.specs.declared.places.PatternPlace.{PatternPlace}
 use Rattle.es5_lexer.specs.declared.places.PatternPlace.TheVariants.{BodyStart, Body, BodyEscape, Class, ClassEscape, Flags}
 use Rattle.es5_lexer.specs.declared.states.State.{State}
 use Rattle.es5_lexer.specs.declared.states.State.TheVariants.{Start, Slash, LineComment, BlockComment, Token}
@@ -46,8 +45,7 @@ use Rattle.es5_lexer.proofs.TokenLemmas.{name_unbarred}
 use Rattle.es5_lexer.proofs.OpenLemmas.{opened, token_first}
 use Rattle.es5_lexer.proofs.TokenSteps.{of_ended, prepend, way, none_longer, dead_from}
 use Rattle.es5_lexer.proofs.SlashLemmas.{first_slash, token_begins, last_token, empty_lexes}
-use Rattle.es5_lexer.proofs.LetterLemmas.{no_name}
-use Rattle.es5_lexer.proofs.EscapeSteps.{Continues, next_seen, digit_step, Takes, on, behind_it, opens, start_backslash, place_backslash, as_within, line_backslash, start_dollar, part_dollar, mark_dollar}
+use Rattle.es5_lexer.proofs.EscapeSteps.{Continues, next_seen, Takes, on, behind_it, opens, start_backslash, place_backslash, as_within, line_backslash, start_dollar, part_dollar, mark_dollar}
 
 -- nothing goes on from a dead state
 pub dead_state : (s : State) (read : List ℕ) (f : Bool) (w : List Mark) (end : Goal) (tokens : List Lexeme) → is_dead_state s ≡ true → From s read f w end tokens → ⊥
@@ -347,16 +345,18 @@ dollar_lexes f g c e =
 -- behind a whole token
 ends_dollar : (p : Place) (read : List ℕ) (f : Bool) (g : Goal) (k : Kind) → ended p ≡ Some k → is_dead (next p 36) ≡ true → is_barred (token_of k (onto read [])) 36 ≡ false → (tokens : List Lexeme) × TokenFrom p read f (mark g 36 ∷ []) g tokens
 ends_dollar p read f g k e dead free =
-    let d = dollar_lexes false g 36 refl in
-    (_, of_ended p read f (mark g 36 ∷ []) g _ (record {
-      kind = k;
-      others = d.0;
-      completes = ended_rest p k e;
-      longest = none_longer p 36 [] dead;
-      free = true_not _ free;
-      further = d.1;
-      gives = refl;
-    }))
+    let d = dollar_lexes false g 36 refl in (
+      _,
+      of_ended p read f (mark g 36 ∷ []) g _ (record {
+        kind = k;
+        others = d.0;
+        completes = ended_rest p k e;
+        longest = none_longer p 36 [] dead;
+        free = true_not _ free;
+        further = d.1;
+        gives = refl;
+      }),
+    )
 
 -- in a name or in flags
 part_goes : (p : Place) (read : List ℕ) (f : Bool) (g : Goal) (k : Kind) → ended p ≡ Some k → next p 36 ≡ p → (tokens : List Lexeme) × TokenFrom p read f (mark g 36 ∷ []) g tokens

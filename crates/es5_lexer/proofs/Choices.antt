@@ -64,9 +64,3 @@ if_true false x h = absurd cc
 pub if_false : (b x : Bool) → b ≡ false → (if b then true else x) ≡ x
 if_false true x h = absurd cc
 if_false false x h = refl
-
-pub not_swap : (a b : Bool) → a ≡ not b → b ≡ not a
-not_swap true true h = h
-not_swap true false h = refl
-not_swap false true h = refl
-not_swap false false h = h

@@ -1,5 +1,5 @@
 -- Escapes that aren't whole: where a lexer stands in them, and what `$` does in their place.
-use Rattle.std.proofs.Common.{◌≡◌, ℕ, Bool, true, false, ◌&&◌, ◌||◌, not, ◌==◌, if◌then◌else◌, Option, Some, None, List, [], ◌∷◌, ◌++◌, ◌⊎◌, inl, inr, refl, sym, ap, subst, ◌∙◌, append_assoc, IsTrue, arith}
+use Rattle.std.proofs.Common.{◌≡◌, ℕ, Bool, true, false, ◌&&◌, ◌||◌, ◌==◌, if◌then◌else◌, Option, Some, None, List, [], ◌∷◌, ◌⊎◌, inl, inr, refl, sym, ap, subst, ◌∙◌, IsTrue, arith}
 use Rattle.std.proofs.lemmas.Bool.Decides.{nat_tests}
 use Rattle.ucd_category.specs.GeneralCategory.{general_category}
 use Rattle.ucd_category.specs.GeneralCategoryRows.{general_category_rows}
@@ -9,23 +9,18 @@ use Rattle.text_stream.specs.declared.classes.CharClass.{CharClass}
 use Rattle.text_stream.specs.declared.classes.CharClass.TheVariants.{LineEnd, Space, NameStart, NamePart, Other}
 use Rattle.text_stream.proofs.ClassLemmas.{class_of-sets}
 use Rattle.es5_lexer.specs.Characters.{is_line_end, is_start, is_part, is_hex, is_escape_of, is_line_end_class, is_part_class}
-use Rattle.es5_lexer.specs.Tokens.{is_barred, may_precede}
-use Rattle.es5_lexer.specs.Trivia.{is_blank}
-use Rattle.es5_lexer.specs.Begins.{is_open_escape}
-use Rattle.es5_lexer.specs.Suits.{is_div}
+use Rattle.es5_lexer.specs.Tokens.{is_barred}
 use Rattle.es5_lexer.specs.Strings.{quote_of}
-use Rattle.es5_lexer.specs.Texts.{Mark, mark, chars, LexesFrom}
-use Rattle.es5_lexer.specs.Places.{set_of, behind, is_dot, longer, first, behind_slash, next, next_by, next_in_parts, next_in_escape, next_in_number, next_in_exponent, next_in_whole, next_in_chars, next_in_text, next_in_body, next_in_class, next_in_pattern, ended, is_dead}
-use Rattle.es5_lexer.specs.Rests.{with_seen, Rest}
+use Rattle.es5_lexer.specs.Places.{set_of, is_dot, longer, next, next_by, next_in_parts, next_in_escape, next_in_chars, next_in_pattern, ended, is_dead}
+use Rattle.es5_lexer.specs.Rests.{Rest}
 use Rattle.es5_lexer.specs.Reading.{token_of}
-use Rattle.es5_lexer.specs.Residuals.{onto, TokenFrom, From, own, Leads, LeadsFrom, LeadsStart, Dies, is_dead_state}
-use Rattle.es5_lexer.specs.Lexing.{text_place, InPattern, Within}
+use Rattle.es5_lexer.specs.Residuals.{Leads, LeadsFrom, LeadsStart}
+use Rattle.es5_lexer.specs.Lexing.{text_place, Within}
 use Rattle.es5_lexer.specs.declared.tokens.Goal.{Goal}
 use Rattle.es5_lexer.specs.declared.tokens.Punct.{Punct}
 use Rattle.es5_lexer.specs.declared.tokens.Punct.TheVariants.{Dot, Less, Greater, ShiftRight, Plus, Minus, And, Or, Slash as TheSlash}
-use Rattle.es5_lexer.specs.declared.tokens.Lexeme.{Lexeme}
 use Rattle.es5_lexer.specs.declared.places.Kind.{Kind}
-use Rattle.es5_lexer.specs.declared.places.Kind.TheVariants.{Name as AName, Punct as APunct, Number as ANumber, Text as AText, Pattern as APattern}
+use Rattle.es5_lexer.specs.declared.places.Kind.TheVariants.{Name as AName, Punct as APunct, Text as AText, Pattern as APattern}
 use Rattle.es5_lexer.specs.declared.places.Place.{Place}
 use Rattle.es5_lexer.specs.declared.places.Place.TheVariants.{Name, Escape, Mark as AtMark, Number, Text, Pattern, Dead}
 use Rattle.es5_lexer.specs.declared.places.Host.{Host}
@@ -40,15 +35,13 @@ use Rattle.es5_lexer.specs.declared.places.TextPlace.{TextPlace}
 use Rattle.es5_lexer.specs.declared.places.TextPlace.TheVariants.{Chars, TextEscape, Cr, Hex, End}
 use Rattle.es5_lexer.specs.declared.places.Left.{Left}
 use Rattle.es5_lexer.specs.declared.places.Left.TheVariants.{One, Two, Three, Four}
-use Rattle.es5_lexer.specs.declared.places.PatternPlace.{PatternPlace}
 use Rattle.es5_lexer.specs.declared.places.PatternPlace.TheVariants.{BodyStart, Body, BodyEscape, Class, ClassEscape, Flags}
 use Rattle.es5_lexer.specs.declared.states.State.{State}
 use Rattle.es5_lexer.specs.declared.states.State.TheVariants.{Start, Slash, LineComment, BlockComment, Token}
-use Rattle.es5_lexer.proofs.Choices.{split, then_in, else_in, is_same, never, and_left, and_right}
+use Rattle.es5_lexer.proofs.Choices.{then_in, else_in, never}
 use Rattle.es5_lexer.proofs.ClassLemmas.{backslash}
-use Rattle.es5_lexer.proofs.PlaceLemmas.{goes, escape_open, ended_rest, ends_here}
-use Rattle.es5_lexer.proofs.OpenLemmas.{Opened, opened, token_first}
-use Rattle.es5_lexer.proofs.TokenSteps.{Ended, way, first_backslash, backslash_no_blank, not_both}
+use Rattle.es5_lexer.proofs.PlaceLemmas.{goes, escape_open}
+use Rattle.es5_lexer.proofs.TokenSteps.{first_backslash, backslash_no_blank, not_both}
 
 -- the characters of escapes end no line
 

@@ -1,10 +1,10 @@
 -- The letters kept of a name follow it, and tell its token.
-use Rattle.std.proofs.Common.{◌≡◌, ℕ, zero, suc, ◌+◌, ◌≤◌, Bool, true, false, ◌&&◌, ◌||◌, ◌==◌, nat_lt, nat_eq, bytes_eq, codes, if◌then◌else◌, is_some, Option, Some, None, List, [], ◌∷◌, ◌++◌, length, map, take, ◌⊎◌, inl, inr, refl, sym, ap, subst, ◌∙◌, append_assoc, arith}
+use Rattle.std.proofs.Common.{◌≡◌, ℕ, zero, suc, ◌≤◌, Bool, true, false, ◌&&◌, ◌||◌, ◌==◌, nat_lt, nat_eq, bytes_eq, codes, if◌then◌else◌, is_some, Option, Some, None, List, [], ◌∷◌, ◌++◌, length, map, take, inl, inr, refl, sym, ap, subst, ◌∙◌, append_assoc, arith}
 use Rattle.std.proofs.lemmas.List.{take-append-le}
 use Rattle.std.proofs.lemmas.Bool.Decides.{nat_tests}
 use Rattle.es5_lexer.specs.Characters.{is_line_end, is_part, is_start, is_hex, escaped, is_escape_of, is_part_class, is_start_class}
 use Rattle.es5_lexer.specs.Names.{AreParts, IsName, spelled, spelled_escape, spelled_with, is_escaped, reserved_words, word_in, word_of, ident_of, token_by, name_token}
-use Rattle.es5_lexer.specs.Places.{set_of, first, next, ended, is_dead, behind, behind_slash}
+use Rattle.es5_lexer.specs.Places.{set_of, first, next, is_dead, behind_slash}
 use Rattle.es5_lexer.specs.Rests.{IsKind, kind_in, with_seen, EscapeRest, MarkRest, Rest}
 use Rattle.es5_lexer.specs.Residuals.{onto, own, own_after, Leads, LeadsFrom, LeadsStart, is_dead_state, is_name_place, is_in_name}
 use Rattle.es5_lexer.specs.Letters.{kept_letter, kept, with_letter, letter, ends_escape, token_of_letters, spelled_from, escaped_from, Spells, Hears, HeardAt}
@@ -92,9 +92,9 @@ name_letter c u (inl (p, _)) =
     let n = part_no_backslash c (c == 92) refl p in
     record {
       spells =
-        then_in (λ (t : Place). spelled (c ∷ u) ≡ before (letter Name c) (spelled_from t u)) (is_part c) _ _ p
-        (else_in (λ (o : Option ℕ). spelled (c ∷ u) ≡ before o (spelled u)) (c == 92) _ _ n
-        (else_in (λ (v : List ℕ). v ≡ c ∷ spelled u) (c == 92) _ _ n refl));
+          then_in (λ (t : Place). spelled (c ∷ u) ≡ before (letter Name c) (spelled_from t u)) (is_part c) _ _ p
+          (else_in (λ (o : Option ℕ). spelled (c ∷ u) ≡ before o (spelled u)) (c == 92) _ _ n
+          (else_in (λ (v : List ℕ). v ≡ c ∷ spelled u) (c == 92) _ _ n refl));
       marks = then_in (λ (t : Place). is_escaped (c ∷ u) ≡ escaped_from t u) (is_part c) _ _ p (ap (λ (b : Bool). b || is_escaped u) n);
     }
 name_letter c u (inr (e, _)) =
@@ -102,13 +102,13 @@ name_letter c u (inr (e, _)) =
     let n : is_part c ≡ false = ap is_part e ∙ ap is_part_class backslash in
     record {
       spells =
-        else_in (λ (q : Place). spelled (c ∷ u) ≡ before (letter Name c) (spelled_from q u)) (is_part c) _ _ n
-        (then_in (λ (q : Place). spelled (c ∷ u) ≡ before (letter Name c) (spelled_from q u)) (c == 92) _ _ t
-        (then_in (λ (o : Option ℕ). spelled (c ∷ u) ≡ before o (spelled_escape u)) (c == 92) _ _ t
-        (then_in (λ (v : List ℕ). v ≡ spelled_escape u) (c == 92) _ _ t refl)));
+          else_in (λ (q : Place). spelled (c ∷ u) ≡ before (letter Name c) (spelled_from q u)) (is_part c) _ _ n
+          (then_in (λ (q : Place). spelled (c ∷ u) ≡ before (letter Name c) (spelled_from q u)) (c == 92) _ _ t
+          (then_in (λ (o : Option ℕ). spelled (c ∷ u) ≡ before o (spelled_escape u)) (c == 92) _ _ t
+          (then_in (λ (v : List ℕ). v ≡ spelled_escape u) (c == 92) _ _ t refl)));
       marks =
-        else_in (λ (q : Place). is_escaped (c ∷ u) ≡ escaped_from q u) (is_part c) _ _ n
-        (then_in (λ (q : Place). is_escaped (c ∷ u) ≡ escaped_from q u) (c == 92) _ _ t (ap (λ (b : Bool). b || is_escaped u) t));
+          else_in (λ (q : Place). is_escaped (c ∷ u) ≡ escaped_from q u) (is_part c) _ _ n
+          (then_in (λ (q : Place). is_escaped (c ∷ u) ≡ escaped_from q u) (c == 92) _ _ t (ap (λ (b : Bool). b || is_escaped u) t));
     }
 
 last_letter : (host : Host) (a b d c : ℕ) (u : List ℕ) (o : Option ℕ) → AName ≡ kind_in host → is_escape_of (set_of host) a b d c ≡ true → escaped a b d c ≡ o → Letter (Escape host (ThreeDigits a b d)) c u
@@ -117,14 +117,14 @@ last_letter host a b d c u None k e f = never (is_escape_of (set_of host) a b d 
 last_letter FlagChar a b d c u (Some n) k e f = absurd cc
 last_letter FirstChar a b d c u (Some n) k e f = record {
   spells =
-    then_in (λ (t : Place). spelled_with (escaped a b d c) (spelled u) ≡ before (escaped a b d c) (spelled_from t u)) (is_escape_of is_start a b d c) _ _ e
-    (subst (λ (o : Option ℕ). spelled_with o (spelled u) ≡ before o (spelled u)) (sym f) refl);
+      then_in (λ (t : Place). spelled_with (escaped a b d c) (spelled u) ≡ before (escaped a b d c) (spelled_from t u)) (is_escape_of is_start a b d c) _ _ e
+      (subst (λ (o : Option ℕ). spelled_with o (spelled u) ≡ before o (spelled u)) (sym f) refl);
   marks = refl;
 }
 last_letter LaterChar a b d c u (Some n) k e f = record {
   spells =
-    then_in (λ (t : Place). spelled_with (escaped a b d c) (spelled u) ≡ before (escaped a b d c) (spelled_from t u)) (is_escape_of is_part a b d c) _ _ e
-    (subst (λ (o : Option ℕ). spelled_with o (spelled u) ≡ before o (spelled u)) (sym f) refl);
+      then_in (λ (t : Place). spelled_with (escaped a b d c) (spelled u) ≡ before (escaped a b d c) (spelled_from t u)) (is_escape_of is_part a b d c) _ _ e
+      (subst (λ (o : Option ℕ). spelled_with o (spelled u) ≡ before o (spelled u)) (sym f) refl);
   marks = refl;
 }
 

@@ -1,22 +1,21 @@
 -- What a lexer has read, along its calls.
-use Rattle.std.proofs.Common.{◌≡◌, ℕ, Bool, true, false, ◌==◌, not, if◌then◌else◌, Option, Some, None, List, [], ◌∷◌, ◌++◌, ◌⊎◌, inl, inr, refl, sym, ap, subst, ◌∙◌, append_assoc}
+use Rattle.std.proofs.Common.{◌≡◌, ℕ, Bool, true, false, ◌==◌, if◌then◌else◌, Option, Some, None, List, [], ◌∷◌, ◌++◌, ◌⊎◌, inl, inr, refl, sym, ap, subst, ◌∙◌, append_assoc}
 use Rattle.std.proofs.Common.{IsTrue}
 use Rattle.es5_lexer.specs.Trivia.{is_line_comment, EndsLine, IsCommentRest}
-use Rattle.es5_lexer.specs.Tokens.{may_precede}
-use Rattle.es5_lexer.specs.Texts.{Mark, mark, chars, asked, ended_in, Lexes, LexesFrom}
+use Rattle.es5_lexer.specs.Texts.{Mark, mark, chars, ended_in, Lexes, LexesFrom}
 use Rattle.es5_lexer.specs.Suits.{is_div, suits, Suits}
-use Rattle.es5_lexer.specs.Places.{next, ended, behind_slash, longer}
+use Rattle.es5_lexer.specs.Places.{next, ended, behind_slash}
 use Rattle.es5_lexer.specs.Rests.{MarkRest, Rest}
 use Rattle.es5_lexer.specs.Reading.{token_of}
 use Rattle.es5_lexer.specs.Residuals.{onto, TokenFrom, LineFrom, BlockFrom, From, GoesOn, own, own_after, given_by, Steps, Ends, EndsAs, Leads, LeadsFrom, is_dead_state}
-use Rattle.es5_lexer.specs.Letters.{Hears, HeardAt, token_of_letters, token_of_kind, given_lexemes}
+use Rattle.es5_lexer.specs.Letters.{Hears, HeardAt, token_of_kind, given_lexemes}
 use Rattle.es5_lexer.specs.Begins.{IsFront}
-use Rattle.es5_lexer.specs.Lexing.{Residual, EscapeAt, Within, HasRead}
+use Rattle.es5_lexer.specs.Lexing.{Residual, Within, HasRead}
 use Rattle.es5_lexer.specs.declared.tokens.Goal.{Goal}
 use Rattle.es5_lexer.specs.declared.tokens.Token.{Token as AToken}
 use Rattle.es5_lexer.specs.declared.tokens.Lexeme.{Lexeme}
 use Rattle.es5_lexer.specs.declared.tokens.Punct.{Punct}
-use Rattle.es5_lexer.specs.declared.tokens.Punct.TheVariants.{Dot, Slash as TheSlash, SlashAssign}
+use Rattle.es5_lexer.specs.declared.tokens.Punct.TheVariants.{Slash as TheSlash, SlashAssign}
 use Rattle.es5_lexer.specs.declared.letters.Letters.{Letters}
 use Rattle.es5_lexer.specs.declared.lexer.Lexer.{Lexer}
 use Rattle.es5_lexer.specs.declared.places.Kind.{Kind}

@@ -1,5 +1,5 @@
 -- What comes first in a text with tokens: the goal that came with the first character doesn't matter.
-use Rattle.std.proofs.Common.{◌≡◌, ℕ, Bool, true, false, ◌||◌, ◌==◌, if◌then◌else◌, Option, Some, None, List, [], ◌∷◌, ◌++◌, refl, sym, ap, subst, ◌∙◌}
+use Rattle.std.proofs.Common.{◌≡◌, ℕ, Bool, true, false, ◌||◌, ◌==◌, if◌then◌else◌, None, List, [], ◌∷◌, ◌++◌, refl, sym, ap, subst, ◌∙◌}
 use Rattle.es5_lexer.specs.Characters.{is_line_end, is_space, is_line_end_class, is_space_class, is_start}
 use Rattle.es5_lexer.specs.Trivia.{is_blank, EndsLine}
 use Rattle.es5_lexer.specs.Numbers.{is_nonzero}
@@ -12,7 +12,6 @@ use Rattle.es5_lexer.specs.Residuals.{TokenFrom, LineFrom, BlockFrom}
 use Rattle.es5_lexer.specs.declared.tokens.Goal.{Goal}
 use Rattle.es5_lexer.specs.declared.tokens.Token.{Token as AToken}
 use Rattle.es5_lexer.specs.declared.tokens.Lexeme.{Lexeme}
-use Rattle.es5_lexer.specs.declared.trivia.Trivium.{Trivium}
 use Rattle.es5_lexer.specs.declared.places.Kind.{Kind}
 use Rattle.es5_lexer.specs.declared.places.Place.{Place}
 use Rattle.es5_lexer.specs.declared.places.Place.TheVariants.{Name, Escape, Number, Text}
@@ -24,7 +23,6 @@ use Rattle.es5_lexer.specs.declared.places.TextPlace.TheVariants.{Chars}
 use Rattle.es5_lexer.proofs.Choices.{else_in, never}
 use Rattle.es5_lexer.proofs.ClassLemmas.{slash}
 use Rattle.es5_lexer.proofs.FirstLemmas.{first_goes, first_comes}
-use Rattle.es5_lexer.proofs.TriviaLemmas.{chars-append}
 use Rattle.es5_lexer.proofs.TokenLemmas.{token_kind, kind_token, no_trivium}
 
 -- what the first character begins, before the text w
@@ -117,10 +115,12 @@ token_first f g c w end tokens h =
     record {
       items = token (token_of h.kind (c ∷ chars h.before)) (mark g c) h.before ∷ h.further.items;
       spells = ap (λ (v : List Mark). mark g c ∷ v) spells;
-      fits =
-        (subst (λ (v : List Mark). Stands (asked v end) (token_of h.kind (c ∷ chars h.before)) (c ∷ chars h.before) (chars (text h.further.items []))) spells
-        (subst (λ (v : List Mark). Stands (asked w end) (token_of h.kind (c ∷ chars h.before)) (c ∷ chars h.before) (chars v)) h.further.spells
-        (stands_from (asked w end) c h.kind (chars h.before) (chars h.after) h.completes h.longest h.free)), h.further.fits);
+      fits = (
+        subst (λ (v : List Mark). Stands (asked v end) (token_of h.kind (c ∷ chars h.before)) (c ∷ chars h.before) (chars (text h.further.items []))) spells
+            (subst (λ (v : List Mark). Stands (asked w end) (token_of h.kind (c ∷ chars h.before)) (c ∷ chars h.before) (chars v)) h.further.spells
+            (stands_from (asked w end) c h.kind (chars h.before) (chars h.after) h.completes h.longest h.free)),
+        h.further.fits,
+      );
       gives = h.gives ∙ ap (λ (x : List Lexeme). record { token = token_of h.kind (c ∷ chars h.before); newline = f } ∷ x) h.further.gives;
     }
 

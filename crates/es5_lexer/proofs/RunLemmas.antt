@@ -1,5 +1,5 @@
 -- Characters that leave a lexer as it is: the tables of them, and that they do.
-use Rattle.std.proofs.Common.{◌≡◌, ℕ, suc, ◌+◌, ◌<◌, ◌≤◌, Bool, true, false, ◌&&◌, ◌||◌, not, ◌==◌, nat_lt, cond, if◌then◌else◌, Option, Some, None, slice_index_or, List, [], ◌∷◌, ◌++◌, length, take, inl, refl, sym, ap, subst, ◌∙◌, append_assoc, arith}
+use Rattle.std.proofs.Common.{◌≡◌, ℕ, suc, ◌+◌, ◌<◌, ◌≤◌, Bool, true, false, ◌&&◌, ◌||◌, not, ◌==◌, nat_lt, cond, Option, None, slice_index_or, List, [], ◌∷◌, ◌++◌, length, take, inl, refl, sym, ap, subst, ◌∙◌, append_assoc, arith}
 use Rattle.std.specs.List.{list_all, prefix_len}
 use Rattle.std.specs.Char.{is_ascii}
 use Rattle.std.proofs.lemmas.Bool.Decides.{nat_tests}
@@ -11,11 +11,10 @@ use Rattle.ucd_table.proofs.Facts.{Stepped-below}
 use Rattle.text_stream.specs.Classes.{class_in, class_of}
 use Rattle.es5_lexer.specs.Characters.{is_line_end, is_space, is_part, is_line_end_class, is_space_class, is_part_class}
 use Rattle.es5_lexer.specs.Strings.{quote_of, is_plain}
-use Rattle.es5_lexer.specs.Texts.{Mark, mark, chars, ended_by, Lexes}
-use Rattle.es5_lexer.specs.Trivia.{is_blank}
+use Rattle.es5_lexer.specs.Texts.{Mark, mark, chars, Lexes}
 use Rattle.es5_lexer.specs.Places.{next, is_dead}
 use Rattle.es5_lexer.specs.Residuals.{From, own, own_after, Steps, Leads}
-use Rattle.es5_lexer.specs.Letters.{kept_letter, with_letter, letter, HeardAt, Hears}
+use Rattle.es5_lexer.specs.Letters.{with_letter, letter, HeardAt, Hears}
 use Rattle.es5_lexer.specs.Lexing.{HasRead}
 use Rattle.es5_lexer.specs.Runs.{Stays, is_in}
 use Rattle.es5_lexer.specs.declared.tokens.Goal.{Goal}

@@ -1,22 +1,20 @@
 -- The slash that is kept: a comment, a division or a regular expression; and the ends of texts.
-use Rattle.std.proofs.Common.{◌≡◌, ℕ, Bool, true, false, ◌||◌, ◌==◌, if◌then◌else◌, is_some, Option, Some, None, List, [], ◌∷◌, ◌++◌, ◌⊎◌, inl, inr, refl, sym, ap, subst, ◌∙◌}
-use Rattle.es5_lexer.specs.Characters.{is_start, is_line_end, is_start_class}
+use Rattle.std.proofs.Common.{◌≡◌, ℕ, Bool, true, false, ◌==◌, is_some, Option, Some, None, List, [], ◌∷◌, ◌++◌, ◌⊎◌, inl, inr, refl, sym, ap, subst, ◌∙◌}
+use Rattle.es5_lexer.specs.Characters.{is_start, is_start_class}
 use Rattle.es5_lexer.specs.Patterns.{IsBody}
 use Rattle.es5_lexer.specs.Trivia.{IsCommentRest}
 use Rattle.es5_lexer.specs.Tokens.{may_precede}
 use Rattle.es5_lexer.specs.Texts.{Mark, mark, chars, Item, blank, line, block, token, text, lexemes, LexesFrom}
 use Rattle.es5_lexer.specs.Suits.{is_div}
-use Rattle.es5_lexer.specs.Places.{longer, first, behind_slash, ended}
+use Rattle.es5_lexer.specs.Places.{first, behind_slash, ended}
 use Rattle.es5_lexer.specs.Rests.{Rest}
 use Rattle.es5_lexer.specs.Reading.{token_of}
-use Rattle.es5_lexer.specs.Residuals.{onto, TokenFrom, LineFrom, BlockFrom, From, GoesOn, given_by, Steps, Ends}
+use Rattle.es5_lexer.specs.Residuals.{onto, TokenFrom, LineFrom, BlockFrom, given_by, Steps, Ends}
 use Rattle.es5_lexer.specs.declared.tokens.Goal.{Goal}
-use Rattle.es5_lexer.specs.declared.tokens.Token.{Token as AToken}
 use Rattle.es5_lexer.specs.declared.tokens.Lexeme.{Lexeme}
 use Rattle.es5_lexer.specs.declared.tokens.Punct.{Punct}
-use Rattle.es5_lexer.specs.declared.tokens.Punct.TheVariants.{Dot, Slash as TheSlash}
+use Rattle.es5_lexer.specs.declared.tokens.Punct.TheVariants.{Slash as TheSlash}
 use Rattle.es5_lexer.specs.declared.places.Kind.{Kind}
-use Rattle.es5_lexer.specs.declared.places.Kind.TheVariants.{Punct as APunct}
 use Rattle.es5_lexer.specs.declared.places.Place.{Place}
 use Rattle.es5_lexer.specs.declared.places.Place.TheVariants.{Mark as AtMark, Pattern}
 use Rattle.es5_lexer.specs.declared.places.PatternPlace.TheVariants.{BodyStart}
@@ -173,12 +171,13 @@ last_token s read f g k e = record {
       let rest = subst (λ (v : List Mark). Rest s h.kind (chars v)) n.0 h.completes in
       let ends = ends_here s h.kind rest in
       let same : h.kind ≡ k = cc in
-      let none : h.others ≡ [] = no_tokens false g h.others (subst (λ (v : List Mark). LexesFrom false v g h.others) n.1 h.further) in
-      (refl,
-      h.gives
-      ∙ ap (λ (v : List Mark). record { token = token_of h.kind (onto read (chars v)); newline = f } ∷ h.others) n.0
-      ∙ ap (λ (z : Kind). record { token = token_of z (onto read []); newline = f } ∷ h.others) same
-      ∙ ap (λ (z : List Lexeme). record { token = token_of k (onto read []); newline = f } ∷ z) none);
+      let none : h.others ≡ [] = no_tokens false g h.others (subst (λ (v : List Mark). LexesFrom false v g h.others) n.1 h.further) in (
+        refl,
+        h.gives
+            ∙ ap (λ (v : List Mark). record { token = token_of h.kind (onto read (chars v)); newline = f } ∷ h.others) n.0
+            ∙ ap (λ (z : Kind). record { token = token_of z (onto read []); newline = f } ∷ h.others) same
+            ∙ ap (λ (z : List Lexeme). record { token = token_of k (onto read []); newline = f } ∷ z) none,
+      );
   comes = λ _. record {
     kind = k;
     before = [];

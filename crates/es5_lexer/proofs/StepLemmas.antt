@@ -1,20 +1,19 @@
 -- The steps of a lexer between tokens and in comments.
-use Rattle.std.proofs.Common.{◌≡◌, ℕ, Bool, true, false, ◌&&◌, ◌||◌, ◌==◌, if◌then◌else◌, None, List, [], ◌∷◌, ◌++◌, ◌⊎◌, inl, inr, refl, sym, ap, subst, ◌∙◌}
-use Rattle.es5_lexer.specs.Characters.{is_line_end, is_space, is_line_end_class}
+use Rattle.std.proofs.Common.{◌≡◌, ℕ, Bool, true, false, ◌&&◌, ◌||◌, ◌==◌, None, List, [], ◌∷◌, ◌++◌, ◌⊎◌, inl, inr, refl, sym, ap, subst, ◌∙◌}
+use Rattle.es5_lexer.specs.Characters.{is_line_end, is_space}
 use Rattle.es5_lexer.specs.Trivia.{is_blank, is_line_comment, EndsLine, IsCommentRest}
 use Rattle.es5_lexer.specs.Texts.{Mark, mark, chars, asked, ended_by, ended_in, LexesFrom}
-use Rattle.es5_lexer.specs.Places.{first, behind_slash}
-use Rattle.es5_lexer.specs.Residuals.{TokenFrom, LineFrom, BlockFrom, From, GoesOn, own, Steps}
+use Rattle.es5_lexer.specs.Places.{first}
+use Rattle.es5_lexer.specs.Residuals.{TokenFrom, LineFrom, BlockFrom, From, own, Steps}
 use Rattle.es5_lexer.specs.declared.tokens.Goal.{Goal}
 use Rattle.es5_lexer.specs.declared.tokens.Lexeme.{Lexeme}
 use Rattle.es5_lexer.specs.declared.places.Place.{Place}
 use Rattle.es5_lexer.specs.declared.states.State.{State}
 use Rattle.es5_lexer.specs.declared.states.State.TheVariants.{Start, Slash, LineComment, BlockComment, Token}
 use Rattle.es5_lexer.specs.declared.states.Step.{Step}
-use Rattle.es5_lexer.proofs.Choices.{then_in, else_in, is_same, never, or_not, not_or, true_not, and_right}
-use Rattle.es5_lexer.proofs.ClassLemmas.{slash}
+use Rattle.es5_lexer.proofs.Choices.{then_in, else_in, is_same, never, or_not, not_or, and_right}
 use Rattle.es5_lexer.proofs.TriviaLemmas.{ended_in-more, ended_in-slash, blank_by, blank_or}
-use Rattle.es5_lexer.proofs.OpenLemmas.{a_blank, a_line, a_block, a_token, Opened, opened, blank_first, line_first, block_first, token_first, reread, no_blank, slash_no_blank, first_same}
+use Rattle.es5_lexer.proofs.OpenLemmas.{a_blank, a_line, a_block, a_token, Opened, opened, blank_first, token_first, reread, no_blank, slash_no_blank, first_same}
 
 -- a step by which no token has ended
 pub quiet : (s : State) (read : List ℕ) (f : Bool) (g : Goal) (c : ℕ) (t : State) (flag : Bool) → ((w : List Mark) (end : Goal) (tokens : List Lexeme) → From s (own s read) f (mark g c ∷ w) end tokens → From t (c ∷ own s read) flag w end tokens) → ((w : List Mark) (end : Goal) (tokens : List Lexeme) → From t (c ∷ own s read) flag w end tokens → From s (own s read) f (mark g c ∷ w) end tokens) → Steps s read f g c None t flag
@@ -131,14 +130,18 @@ in_block_goes star f g c w end tokens h = by_comment h.comment h.after h.spells 
     by_mark : (m : Mark) (q r : List Mark) → c ≡ m.character → w ≡ q ++ r → IsCommentRest star (m.character ∷ chars q) → LexesFrom (ended_in f (m.character ∷ chars q)) r end tokens → (((star && (c == 47)) ≡ true) × LexesFrom (ended_in f (c ∷ [])) w end tokens) ⊎ (((star && (c == 47)) ≡ false) × BlockFrom (c == 42) (ended_by f c) w end tokens)
     by_mark m q r same tail (inl (t, n)) l =
         let none : q ≡ [] = no_marks q n in
-        inl (ap (λ (x : ℕ). star && (x == 47)) same ∙ t,
-        subst (λ (x : ℕ). LexesFrom (ended_in f (x ∷ [])) w end tokens) (sym same)
-        (subst (λ (v : List Mark). LexesFrom (ended_in f (m.character ∷ [])) v end tokens) (sym (tail ∙ ap (λ (v : List Mark). v ++ r) none))
-        (subst (λ (v : List ℕ). LexesFrom (ended_in f (m.character ∷ v)) r end tokens) n l)))
+        inl (
+          ap (λ (x : ℕ). star && (x == 47)) same ∙ t,
+          subst (λ (x : ℕ). LexesFrom (ended_in f (x ∷ [])) w end tokens) (sym same)
+              (subst (λ (v : List Mark). LexesFrom (ended_in f (m.character ∷ [])) v end tokens) (sym (tail ∙ ap (λ (v : List Mark). v ++ r) none))
+              (subst (λ (v : List ℕ). LexesFrom (ended_in f (m.character ∷ v)) r end tokens) n l)),
+        )
     by_mark m q r same tail (inr (t, i)) l =
-        inr (ap (λ (x : ℕ). star && (x == 47)) same ∙ t,
-        subst (λ (x : ℕ). BlockFrom (x == 42) (ended_by f x) w end tokens) (sym same)
-        (record { comment = q; after = r; spells = tail; is = i; further = subst (λ (x : Bool). LexesFrom x r end tokens) (sym (ended_in-more f m.character (chars q))) l }))
+        inr (
+          ap (λ (x : ℕ). star && (x == 47)) same ∙ t,
+          subst (λ (x : ℕ). BlockFrom (x == 42) (ended_by f x) w end tokens) (sym same)
+              (record { comment = q; after = r; spells = tail; is = i; further = subst (λ (x : Bool). LexesFrom x r end tokens) (sym (ended_in-more f m.character (chars q))) l }),
+        )
 
     by_comment : (q r : List Mark) → mark g c ∷ w ≡ q ++ r → IsCommentRest star (chars q) → LexesFrom (ended_in f (chars q)) r end tokens → (((star && (c == 47)) ≡ true) × LexesFrom (ended_in f (c ∷ [])) w end tokens) ⊎ (((star && (c == 47)) ≡ false) × BlockFrom (c == 42) (ended_by f c) w end tokens)
     by_comment [] r e i l = absurd i

@@ -1,5 +1,5 @@
 -- The steps of a lexer in a token: it goes on by a character, or it has ended before it.
-use Rattle.std.proofs.Common.{◌≡◌, ℕ, Bool, true, false, ◌&&◌, ◌||◌, not, ◌==◌, if◌then◌else◌, is_some, Option, Some, None, List, [], ◌∷◌, ◌++◌, ◌⊎◌, inl, inr, refl, sym, ap, subst, ◌∙◌}
+use Rattle.std.proofs.Common.{◌≡◌, ℕ, Bool, true, false, ◌&&◌, ◌||◌, ◌==◌, Option, Some, None, List, [], ◌∷◌, ◌++◌, ◌⊎◌, inl, inr, refl, sym, ap, subst, ◌∙◌}
 use Rattle.ucd_category.specs.GeneralCategory.{general_category}
 use Rattle.ucd_category.specs.GeneralCategoryRows.{general_category_rows}
 use Rattle.ucd_table.specs.Rows.{value_in}
@@ -13,13 +13,11 @@ use Rattle.es5_lexer.specs.Numbers.{is_exponent_mark, is_hex_mark}
 use Rattle.es5_lexer.specs.Trivia.{is_blank}
 use Rattle.es5_lexer.specs.Tokens.{is_barred, may_precede}
 use Rattle.es5_lexer.specs.Texts.{Mark, mark, chars, asked, LexesFrom}
-use Rattle.es5_lexer.specs.Places.{is_dot, longer, first, next, next_by, next_in_exponent, next_in_whole, ended, is_dead}
+use Rattle.es5_lexer.specs.Places.{is_dot, longer, first, next, next_by, next_in_exponent, ended, is_dead}
 use Rattle.es5_lexer.specs.Rests.{NumberRest, Rest}
 use Rattle.es5_lexer.specs.Reading.{token_of}
-use Rattle.es5_lexer.specs.Residuals.{onto, TokenFrom, From, GoesOn, Steps}
+use Rattle.es5_lexer.specs.Residuals.{onto, TokenFrom, GoesOn, Steps}
 use Rattle.es5_lexer.specs.declared.tokens.Goal.{Goal}
-use Rattle.es5_lexer.specs.declared.tokens.Token.{Token as AToken}
-use Rattle.es5_lexer.specs.declared.tokens.Token.TheVariants.{Number as TNumber}
 use Rattle.es5_lexer.specs.declared.tokens.Lexeme.{Lexeme}
 use Rattle.es5_lexer.specs.declared.tokens.Punct.{Punct}
 use Rattle.es5_lexer.specs.declared.places.Kind.{Kind}
@@ -32,7 +30,6 @@ use Rattle.es5_lexer.specs.declared.places.NumberPlace.{NumberPlace}
 use Rattle.es5_lexer.specs.declared.places.NumberPlace.TheVariants.{Zero, Digit, Point, Exponent, Sign, ExponentDigit, HexMark, HexDigit, OctalDigit}
 use Rattle.es5_lexer.specs.declared.places.TextPlace.TheVariants.{Chars, TextEscape, Cr, Hex, End}
 use Rattle.es5_lexer.specs.declared.places.Left.TheVariants.{One, Two, Three, Four}
-use Rattle.es5_lexer.specs.declared.places.PatternPlace.{PatternPlace}
 use Rattle.es5_lexer.specs.declared.places.PatternPlace.TheVariants.{BodyStart, Body, BodyEscape, Class, ClassEscape, Flags}
 use Rattle.es5_lexer.specs.declared.states.State.{State}
 use Rattle.es5_lexer.specs.declared.states.State.TheVariants.{Start, Token}
@@ -40,7 +37,7 @@ use Rattle.es5_lexer.proofs.Choices.{split, else_in, is_same, never, or_cases, a
 use Rattle.es5_lexer.proofs.ClassLemmas.{backslash}
 use Rattle.es5_lexer.proofs.PlaceLemmas.{dot_is, escape_open, goes, comes, ends_here, ended_rest}
 use Rattle.es5_lexer.proofs.TriviaLemmas.{chars-append}
-use Rattle.es5_lexer.proofs.OpenLemmas.{Opened, a_blank, a_line, a_block, a_token, opened, reread}
+use Rattle.es5_lexer.proofs.OpenLemmas.{Opened, a_blank, a_line, a_block, a_token, opened}
 use Rattle.es5_lexer.proofs.StepLemmas.{quiet}
 
 -- the token at hand goes on by the character

@@ -7,8 +7,8 @@ ghost use Rattle.es5_lexer.specs.Reading.{leading_trivium, Passes, token_of, tok
 ghost use Rattle.es5_lexer.specs.declared.tokens.Lexeme.{Lexeme};
 ghost use Rattle.es5_lexer.specs.declared.tokens.Goal.{Goal};
 
-use crate::longest::{Longest, longest_token};
 use crate::letters::Letters;
+use crate::longest::{Longest, longest_token};
 use crate::places::Kind;
 use crate::slices::{behind, last};
 use crate::tokens::{Goal, Lexeme, Token};

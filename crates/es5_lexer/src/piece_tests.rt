@@ -32,15 +32,17 @@ const READINGS: [(&str, &[Goal], &[Token]); 8] = [
     ("a/b", &[R, R, D, R], &[Ident, Punct(P::Slash), Ident]),
     ("/a/", &[D, R, D, D], &[Pattern]),
     ("a/", &[R, R, D], &[Ident, Punct(P::Slash)]),
-    ("a/=b", &[R, R, D, R, R], &[Ident, Punct(P::SlashAssign), Ident]),
+    (
+        "a/=b",
+        &[R, R, D, R, R],
+        &[Ident, Punct(P::SlashAssign), Ident],
+    ),
     ("/=/", &[D, R, D, D], &[Pattern]),
-    ("a /b/ c", &[R, R, R, D, R, D, R, R], &[
-        Ident,
-        Punct(P::Slash),
-        Ident,
-        Punct(P::Slash),
-        Ident,
-    ]),
+    (
+        "a /b/ c",
+        &[R, R, R, D, R, D, R, R],
+        &[Ident, Punct(P::Slash), Ident, Punct(P::Slash), Ident],
+    ),
     ("a//b", &[R, R, R, R, R], &[Ident]),
     ("a/**/b", &[R, D, R, R, R, R, R], &[Ident, Ident]),
 ];
@@ -104,12 +106,7 @@ fn fed(
 }
 
 /// Feeds one character.
-fn take(
-    lexer: &mut Lexer,
-    goal: Goal,
-    c: char,
-    found: &mut Vec<Lexeme>,
-) -> Result<(), AllocError> {
+fn take(lexer: &mut Lexer, goal: Goal, c: char, found: &mut Vec<Lexeme>) -> Result<(), AllocError> {
     let mut out = ArrayVec::new();
     lexer.feed_char(goal, c, &mut out);
     found.extend_from_slice(out.as_slice())

@@ -10,6 +10,7 @@ use crate::places::{Place, Quote, TextPlace};
 use crate::states::State;
 
 const T: bool = true;
+
 const F: bool = false;
 
 /// The ASCII characters that leave the state as it is, where a name has all the letters that are kept of

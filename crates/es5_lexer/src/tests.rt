@@ -390,7 +390,11 @@ pub(crate) const NEWLINES: [(&str, &[bool]); 15] = [
 ];
 
 /// The tokens of the text up to the first place where none begins, and whether only trivia are left.
-pub(crate) fn lexed(alloc: Global, text: &str, goal: Goal) -> Result<(Vec<Lexeme>, bool), AllocError> {
+pub(crate) fn lexed(
+    alloc: Global,
+    text: &str,
+    goal: Goal,
+) -> Result<(Vec<Lexeme>, bool), AllocError> {
     let chars: Vec<char> = text.chars().collect(alloc)?;
     let mut found = Vec::new(alloc);
     let mut place = 0;
