@@ -118,16 +118,16 @@ chain_so i u tail rest x z y s d w o bad g t e = by_goes tail t (unary_goes u (t
         let behind : unary_text v (tail_text others rest) ≡ y ∷ s ∷ d ∷ w = cc in
         tail_so i v others rest y s d w bad.operand bad.second_slash bad.dot t.1 t.2 behind
 
-binary_so : (b : Binary) (rest : List Lexeme) (x z y s d : Lexeme) (w : List Lexeme) → is_operand x.token ≡ true → IsBad z y s d → SpellsLevels true (x ∷ z ∷ y ∷ s ∷ d ∷ w) rest → begins_slash rest ≡ true
+binary_so : (b : Binary) (rest : List Lexeme) (x z y s d : Lexeme) (w : List Lexeme) → is_operand x.token ≡ true → IsBad z y s d → SpellsLevels true (binary_ending b) (x ∷ z ∷ y ∷ s ∷ d ∷ w) rest → begins_slash rest ≡ true
 binary_so b rest x z y s d w o bad h =
-    let c = levels_chain true _ rest h in
+    let c = levels_chain true (binary_ending b) _ rest h in
     chain_so true c.first c.tail rest x z y s d w o bad c.good_first c.good_tail (sym c.spells)
 
 cond_so : (c : Cond) (rest : List Lexeme) (x z y s d : Lexeme) (w : List Lexeme) → is_operand x.token ≡ true → IsBad z y s d → GoodCond true c rest → cond_text c rest ≡ x ∷ z ∷ y ∷ s ∷ d ∷ w → begins_slash rest ≡ true
 cond_so (plain b) rest x z y s d w o bad g e =
-    binary_so b rest x z y s d w o bad (record { tree = b; good = g; spells = sym e })
+    binary_so b rest x z y s d w o bad (record { tree = b; good = g; ends = refl; spells = sym e })
 cond_so (choice b q a c k) rest x z y s d w o bad g e =
-    let h = binary_so b _ x z y s d w o bad (record { tree = b; good = g.0; spells = sym e }) in absurd cc
+    let h = binary_so b _ x z y s d w o bad (record { tree = b; good = g.0; ends = refl; spells = sym e }) in absurd cc
 
 assign_no_slash : (p : Punct) → is_assign p ≡ true → is_slash (APunct p) ≡ false
 assign_no_slash Slash h = absurd cc

@@ -4,6 +4,7 @@ use Rattle.es5_lexer.specs.declared.tokens.Lexeme.{Lexeme}
 use Rattle.es5_trees.specs.Words.{level}
 use Rattle.es5_trees.specs.Trees.{Binary, Unary}
 use Rattle.es5_trees.specs.Spelling.{binary_text, unary_text}
+use Rattle.es5_trees.specs.Endings.{Ending, unary_ending, binary_ending}
 use Rattle.es5_trees.specs.Good.{GoodBinary, GoodUnary, may_stand}
 
 -- what stands behind the first operand
@@ -23,16 +24,23 @@ GoodTail with_in (further x u tail) rest =
     × GoodUnary u (tail_text tail rest)
     × GoodTail with_in tail rest
 
--- the tokens are those of a tree with its operators at their levels, and the rest
-pub record SpellsLevels (with_in : Bool) (tokens rest : List Lexeme) : Type 0 where
+-- what a chain ends in: the last operand tells
+abbrev pub chain_ending : Unary → Tail → Ending
+chain_ending u nothing = unary_ending u
+chain_ending u (further x v tail) = chain_ending v tail
+
+-- the tokens are those of a tree with its operators at their levels that ends so, and the rest
+pub record SpellsLevels (with_in : Bool) (ending : Ending) (tokens rest : List Lexeme) : Type 0 where
   pub tree : Binary
   pub good : GoodBinary with_in 1 tree rest
+  pub ends : binary_ending tree ≡ ending
   pub spells : tokens ≡ binary_text tree rest
 
--- the tokens are those of a flat chain, and the rest
-pub record SpellsChain (with_in : Bool) (tokens rest : List Lexeme) : Type 0 where
+-- the tokens are those of a flat chain that ends so, and the rest
+pub record SpellsChain (with_in : Bool) (ending : Ending) (tokens rest : List Lexeme) : Type 0 where
   pub first : Unary
   pub tail : Tail
   pub good_first : GoodUnary first (tail_text tail rest)
   pub good_tail : GoodTail with_in tail rest
+  pub ends : chain_ending first tail ≡ ending
   pub spells : tokens ≡ unary_text first (tail_text tail rest)

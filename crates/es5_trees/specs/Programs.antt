@@ -3,14 +3,14 @@ use Rattle.std.specs.Prelude.{◌≡◌, ℕ, ◌≤◌, List, []}
 use Rattle.es5_lexer.specs.declared.tokens.Lexeme.{Lexeme}
 use Rattle.es5_trees.specs.Trees.{Elements}
 use Rattle.es5_trees.specs.Spelling.{elements_text}
-use Rattle.es5_trees.specs.Nesting.{elements_nest}
+use Rattle.es5_trees.specs.Depths.{greatest, elements_depths}
 use Rattle.es5_trees.specs.Good.{GoodElements}
 
--- the tokens are those of a program that nests at most so deep
+-- the tokens are those of a program that nests at most so deep: no more units are open at any token
 pub record IsProgramWithin (bound : ℕ) (tokens : List Lexeme) : Type 0 where
   pub program : Elements
   pub good : GoodElements program []
-  pub shallow : elements_nest program ≤ bound
+  pub shallow : greatest (elements_depths 0 program []) ≤ bound
   pub spells : tokens ≡ elements_text program []
 
 -- the tokens are those of a program that nests at most 1,024 deep
