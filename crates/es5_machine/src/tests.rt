@@ -1,0 +1,155 @@
+//! Texts, lexed under the machine's goals, and what the machine says of them.
+use crate::Machine;
+use es5_lexer::{next_token, rest_is_trivia};
+use std::alloc::{AllocError, Global};
+use std::test::Fail;
+
+/// What the machine is to say of a text.
+#[derive(Clone, Copy, Debug, PartialEq, Eq)]
+enum Verdict {
+    /// It is a script.
+    Script,
+    /// It is none, but what follows may save it.
+    Alive,
+    /// The token of this number, counted from 1, is the first that nothing can save.
+    DeadAt(usize),
+}
+
+use Verdict::{Alive, DeadAt, Script};
+
+/// Pieces, each so many times, that make a text.
+type Pieces = &'static [(usize, &'static str)];
+
+static ROWS: [(Pieces, Verdict); 71] = [
+    // expressions
+    (&[(1, "a = b ? c : d = e;")], Script),
+    (&[(1, "new new a(b)(c).d;")], Script),
+    (&[(1, "[,,a,,];")], Script),
+    (&[(1, "({a:1,})[b]++;")], Script),
+    (&[(1, "({1:a,\"s\":b,if:c})")], Script),
+    (&[(1, "x = { get get() { return\n} , set: 1 }")], Script),
+    (&[(1, "a + b = c;")], DeadAt(4)),
+    (&[(1, "a ? b = c;")], DeadAt(6)),
+    (&[(1, "++a++ = b;")], DeadAt(4)),
+    (&[(1, "a b;")], DeadAt(2)),
+    (&[(1, "x=function 1(){}")], DeadAt(4)),
+    // headers
+    (&[(1, "for (a in b);")], Script),
+    (&[(1, "for (a ? b in c : d;;);")], Script),
+    (&[(1, "for ([a in b];;);")], Script),
+    (&[(1, "for (var a = b in c);")], Script),
+    (&[(1, "for (var a = b ? c in d : e in f);")], Script),
+    (&[(1, "for (a + b in c);")], DeadAt(6)),
+    (&[(1, "for (a = b in c;;);")], DeadAt(6)),
+    (&[(1, "for (var a, b in c);")], DeadAt(7)),
+    (&[(1, "for (a; b\n)")], DeadAt(6)),
+    // statements
+    (&[(1, "")], Script),
+    (&[(1, "{};")], Script),
+    (&[(1, "[1,2]")], Script),
+    (&[(1, "a=1")], Script),
+    (&[(1, "a: b: for (;;) continue\na")], Script),
+    (&[(1, "if (a) do if (b) c; while (d); else e")], Script),
+    (&[(1, "get\n:")], Alive),
+    (&[(1, "{ function f() {} }")], DeadAt(2)),
+    (&[(1, "{\"a\":1}")], DeadAt(3)),
+    (&[(1, "if (a) b else c")], DeadAt(6)),
+    (&[(1, "if (a > b)\nelse c = d")], DeadAt(7)),
+    (&[(1, "let x = 1")], DeadAt(2)),
+    (&[(1, "break 1")], DeadAt(2)),
+    (&[(1, "continue \"a\"")], DeadAt(2)),
+    (&[(1, "throw\na")], DeadAt(2)),
+    // semicolons that are left out
+    (&[(1, "a\n()")], Script),
+    (&[(1, "{ 1\n2 } 3")], Script),
+    (&[(1, "{ 1 2 } 3")], DeadAt(3)),
+    (&[(1, "a = b\n++c")], Script),
+    (&[(1, "a++\n(b)")], Script),
+    (&[(1, "a = b + c\n(d + e).print()")], Script),
+    (&[(1, "var a\n(b)")], Script),
+    (&[(1, "return\na + b")], Script),
+    (&[(1, "do ; while (a)\nb")], Script),
+    (&[(1, "do ; while (a) b")], DeadAt(7)),
+    // slashes
+    (&[(1, "if (a) /b/.c; else d / e / f")], Script),
+    (&[(1, "if (a) /b/.c")], Script),
+    (&[(1, "var a\n/x/")], Script),
+    (&[(1, "break\n/x/")], Script),
+    (&[(1, "debugger\n/x/")], Script),
+    (&[(1, "a++\n/x/")], Alive),
+    (&[(1, "a\n/b/.c")], DeadAt(5)),
+    (&[(1, "var /x/")], DeadAt(2)),
+    // depth
+    (&[(1024, "("), (1, "0"), (1024, ")")], Script),
+    (&[(1025, "("), (1, "0"), (1025, ")")], DeadAt(1025)),
+    (&[(1024, "(")], Alive),
+    (&[(1024, "("), (1, "function")], Alive),
+    (&[(1024, "("), (1, "function f(")], DeadAt(1027)),
+    (&[(1024, "["), (1, "0"), (1024, "]")], Script),
+    (&[(1025, "["), (1, "0"), (1025, "]")], DeadAt(1025)),
+    (&[(1024, "if(a)"), (1, "b;")], Script),
+    (&[(1025, "if(a)"), (1, "b;")], DeadAt(4098)),
+    (&[(1024, "a?"), (1, "b"), (1024, ":c")], Script),
+    (&[(1025, "a?"), (1, "b"), (1025, ":c")], DeadAt(2050)),
+    (&[(1024, "do "), (1, ";"), (1024, "while(0);")], Script),
+    (
+        &[(1025, "do "), (1, ";"), (1025, "while(0);")],
+        DeadAt(1025),
+    ),
+    (&[(1022, "{"), (1, "do{}while(a)"), (1022, "}")], Script),
+    (
+        &[(1023, "{"), (1, "do{}while(a)"), (1023, "}")],
+        DeadAt(1025),
+    ),
+    (&[(1025, "a?b:"), (1, "c?d:e")], Script),
+    (&[(5000, "a?b:"), (1, "c")], Script),
+    (&[(1, "if(a)b;"), (5000, "else if(a)b;")], Script),
+];
+
+/// The characters of the pieces.
+fn text_of(alloc: Global, pieces: Pieces) -> Result<Vec<char>, AllocError> {
+    let mut text = Vec::new(alloc);
+    for (times, piece) in pieces {
+        for _ in 0..*times {
+            for c in piece.chars() {
+                text.push(c)?;
+            }
+        }
+    }
+    Ok(text)
+}
+
+/// What the machine says of the text.
+fn verdict_of(text: &[char]) -> Verdict {
+    let mut machine = Machine::new();
+    let mut place = 0;
+    for count in 0..=text.len() {
+        if machine.is_dead() {
+            return DeadAt(count);
+        }
+        if place > text.len() {
+            break;
+        }
+        let Some((lexeme, end)) = next_token(text, place, machine.goal()) else {
+            break;
+        };
+        machine.step(lexeme.token, lexeme.newline);
+        place = end;
+    }
+    let whole = place <= text.len() && rest_is_trivia(text, place);
+    if whole && machine.finish() {
+        Script
+    } else {
+        Alive
+    }
+}
+
+#[test]
+fn texts_have_their_verdicts(rt: HostRuntime) -> Result<(), Fail> {
+    for (pieces, want) in &ROWS {
+        let text = text_of(rt.alloc(), pieces)?;
+        let name = pieces[0].1;
+        assert_eq!(rt; verdict_of(&text), *want, "{name}");
+    }
+    Ok(())
+}
