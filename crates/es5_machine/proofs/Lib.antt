@@ -1,1 +1,4 @@
 pub mod Free
+pub mod Residuals
+pub mod ExpressionSoundness
+pub mod Soundness
