@@ -4,3 +4,7 @@ pub mod ExpressionSoundness
 pub mod Soundness
 pub mod Moves
 pub mod Completeness
+pub mod Fits
+pub mod Closing
+pub mod Slashes
+pub mod Verdicts

@@ -58,7 +58,7 @@ takes {A} {d} h = (h.0, ap (λ ns. d ∷ ns) h.1)
 
 -- a state at a token that it takes
 
-stays : (c : Control) (top : Option Frame) (t : Token) (n : Bool) → refuses (steps.consume c top t n) ≡ false → steps.before c top t n ≡ c
+pub stays : (c : Control) (top : Option Frame) (t : Token) (n : Bool) → refuses (steps.consume c top t n) ≡ false → steps.before c top t n ≡ c
 stays c top t n h = by (omits (ended c) t n) (refuses (steps.consume c top t n)) h
   where
     by : (a b : Bool) → b ≡ false → (if a && b then Between else c) ≡ c
@@ -72,7 +72,7 @@ step_is c fs x a is takes_it keeps =
     ∙ ap (λ gs. moved (steps.consume c (top_of gs) x.token x.newline) gs) keeps
     ∙ ap (λ b. moved b fs) is
 
-kept : (c : Control) (fs : List Frame) (t : Token) → leaves c t ≡ false → settled c fs t ≡ fs
+pub kept : (c : Control) (fs : List Frame) (t : Token) → leaves c t ≡ false → settled c fs t ≡ fs
 kept c fs t h = ap (λ b. if b then without_branches fs else fs) h
 
 pub on : {ds : List ℕ} (c : Control) (fs : List Frame) (x : Lexeme) (w : List Lexeme) (a : Answer) → steps.consume c (top_of fs) x.token x.newline ≡ a → refuses a ≡ false → leaves c x.token ≡ false → Taken (moved a fs) w ds → Accepts (at c fs) (x ∷ w) ds
@@ -97,7 +97,7 @@ pub dead_accepts : (fs : List Frame) (w : List Lexeme) → Accepted (at Dead fs)
 dead_accepts fs [] h = differ h
 dead_accepts fs (x ∷ w) h = dead_accepts fs w h
 
-refused_is : (a : Answer) → refuses a ≡ true → a ≡ Refuse
+pub refused_is : (a : Answer) → refuses a ≡ true → a ≡ Refuse
 refused_is Refuse h = refl
 refused_is (Go c) h = absurd (differ h)
 refused_is (Push f c) h = absurd (differ h)
