@@ -138,8 +138,11 @@ dead_or_not _ = inr (λ e. differ (ap is_dead_state e))
 
 -- of a machine that has read the tokens
 
-pub has_read_more : (v : Config) (m : List Lexeme) (x : Lexeme) → HasRead v m → HasRead (steps.step v x) (m ++ (x ∷ []))
+has_read_more : (v : Config) (m : List Lexeme) (x : Lexeme) → HasRead v m → HasRead (steps.step v x) (m ++ (x ∷ []))
 has_read_more v m x h = record { stands = ap (λ (u : Config). steps.step u x) h.stands ∙ sym (steps_append m (x ∷ []) steps.begun) }
+
+pub has_read_then : (v u : Config) (m : List Lexeme) (x : Lexeme) → u ≡ steps.step v x → HasRead v m → HasRead u (m ++ (x ∷ []))
+has_read_then v u m x e h = record { stands = e ∙ (has_read_more v m x h).stands }
 
 dead_along : (v : Config) (m : List Lexeme) → HasRead v m → IsDead v → (steps.run steps.begun m).control ≡ Dead
 dead_along v m h d = ap (λ (u : Config). u.control) (sym h.stands) ∙ d
