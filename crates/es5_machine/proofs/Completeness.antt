@@ -174,6 +174,7 @@ default_goes p fs d n w is k =
 
 mutual
   unfolding TakesDecls TakesFunction
+
   expr_goes : {hs : List ℕ} (v : Expr) (r : Role) (e : Ends) (fs : List Frame) (i : Bool) (w : List Lexeme) → GoodExpr i v w → in_stands e (top_of fs) ≡ i → steps.assigned r e ≡ Go (Operand Target e) → TakesComma e fs → Goes (expr_ending v) e fs w hs → Accepts (at (Operand r e) fs) (expr_text v w) (expr_depths (length fs) v hs)
   expr_goes (one a) r e fs i w g s m c k = assign_goes a r e fs i w g s m k
   expr_goes (more a n v) r e fs i w g s m c k =

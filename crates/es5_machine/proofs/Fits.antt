@@ -331,12 +331,15 @@ lacking_keeps f t h = by (steps.goes_without f t)
     operand_inside (Head Test) k = operand_keeps Target ByFrame (Some (Head Test)) t refl
     operand_inside (Head Loop) k = operand_keeps Target ByFrame (Some (Head Loop)) t refl
     operand_inside _ k = absurd (differ k)
+
     declares : (g : Frame) (s : Token) → steps.begins_declarations g s ≡ true → Keeps (Swap (Head First) (Binding ByFrame)) (Some g)
     declares (Head Init) s k = (λ u l. l, refl)
     declares _ s k = absurd (differ k)
+
     first : (b : Bool) → steps.begins_declarations f t ≡ b → Keeps (if b then Swap (Head First) (Binding ByFrame) else steps.operand (steps.first_role f) ByFrame t) (Some f)
     first true k = declares f t k
     first false k = operand_inside f h
+
     by : (b : Bool) → Keeps (if b then steps.close_frame f t else steps.first_inside f t) (Some f)
     by true = frame_keeps f t
     by false = first (steps.begins_declarations f t) refl

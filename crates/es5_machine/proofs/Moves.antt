@@ -116,8 +116,10 @@ alike {ds} c d fs x w none lc ld same k = by (refuses (steps.consume c (top_of f
     plain =
         ap (λ (o : Option Ended). step_from (if omits o x.token x.newline && refuses (steps.consume c (top_of fs) x.token x.newline) then Between else c) fs x) none
         ∙ ap (λ gs. moved (steps.consume c (top_of gs) x.token x.newline) gs) (kept c fs x.token lc)
+
     there : Taken (moved (steps.consume c (top_of fs) x.token x.newline) fs) w ds
     there = subst (λ (m : Move). Taken m w ds) plain k
+
     by : (b : Bool) → refuses (steps.consume c (top_of fs) x.token x.newline) ≡ b → Accepts (at d fs) (x ∷ w) ds
     by true r = absurd (refused (steps.consume c (top_of fs) x.token x.newline) fs w r there.0)
     by false r = on d fs x w (steps.consume c (top_of fs) x.token x.newline) (same r) r ld there
@@ -222,8 +224,10 @@ by_operator {ds} k e fs i x w is low may h = by k
   where
     binary : is_binary x.token ≡ true
     binary = le-leb 1 (level x.token) low
+
     operates : steps.is_operator e (top_of fs) x.token ≡ true
     operates = both (is_binary x.token) (may_stand (in_stands e (top_of fs)) x.token) binary (ap (λ b. may_stand b x.token) is ∙ may)
+
     by : (j : Ending) → Goes j e fs (x ∷ w) (length fs ∷ ds)
     by after_operand = record {
       by = λ r. on (AfterLeft r e) fs x w (Go (Operand Plain e)) (binary_left r e (top_of fs) x.token x.newline binary ∙ operator_takes r e (top_of fs) x.token operates) refl refl (takes h);
@@ -629,6 +633,7 @@ name_goes {ds} fs (x ∷ w) k = by x.token x.newline k
     no_colon : (n : Bool) → Accepted (at (AfterLeft Target BySemicolon) fs) (mark Colon n ∷ w) → ⊥
     no_colon true h = nothing_takes (APunct Colon) fs true w refl colon_refused h
     no_colon false h = dead_accepts fs w h
+
     by : (t : Token) (n : Bool) → Accepts (at (AfterLeft Target BySemicolon) fs) (lexeme t n ∷ w) ds → Accepts (at AfterName fs) (lexeme t n ∷ w) ds
     by (APunct Colon) n h = absurd (no_colon n h.0)
     by (AWord In) true h = h
@@ -670,6 +675,7 @@ statement_begins {ds} fs (x ∷ w) m k = by x.token (not_true (begins_other x.to
   where
     other : (t : Token) → begins_other t ≡ false → is_ident t ≡ false → Accepts (at (Operand Target BySemicolon) fs) (lexeme t x.newline ∷ w) ds → Accepts (at Need fs) (lexeme t x.newline ∷ w) ds
     other t b i h = alike (Operand Target BySemicolon) Need fs (lexeme t x.newline) w refl refl refl (statement_alike t b i) h
+
     named : (t : Token) → steps.statement t ≡ Go AfterName → steps.operand Target BySemicolon t ≡ Go (AfterLeft Target BySemicolon) → Accepts (at (Operand Target BySemicolon) fs) (lexeme t x.newline ∷ w) ds → Accepts (at Need fs) (lexeme t x.newline ∷ w) ds
     named t s o h =
         let there : Taken (moved (Go (AfterLeft Target BySemicolon)) fs) w ds = subst (λ a. Taken (moved a fs) w ds) o h in
@@ -677,6 +683,7 @@ statement_begins {ds} fs (x ∷ w) m k = by x.token (not_true (begins_other x.to
       where
         name_taken : {es : List ℕ} → Taken (moved (Go (AfterLeft Target BySemicolon)) fs) w es → Taken (moved (Go AfterName) fs) w es
         name_taken t = let n = name_goes fs w (t.0, refl) in (n.0, ap (λ hs. length fs ∷ hs) n.1 ∙ t.1)
+
     by : (t : Token) → begins_other t ≡ false → Accepts (at (Operand Target BySemicolon) fs) (lexeme t x.newline ∷ w) ds → Accepts (at Need fs) (lexeme t x.newline ∷ w) ds
     by Ident b h = named Ident refl refl h
     by Get b h = named Get refl refl h

@@ -162,9 +162,10 @@ finish_exact v m h =
     (λ a. finishes m (subst (λ (u : Config). steps.accepts u ≡ true) h.stands a), λ p. subst (λ (u : Config). steps.accepts u ≡ true) (sym h.stands) (program_finishes m p))
 
 pub lives_exact : (v : Config) (m : List Lexeme) (x : Lexeme) → HasRead v m → (IsDead (steps.step v x) → ⊥) ↔ IsViable (m ++ (x ∷ []))
-lives_exact v m x h =
-    (λ alive. alive_viable (m ++ (x ∷ [])) (λ d. alive (ap (λ (u : Config). u.control) (has_read_more v m x h).stands ∙ d)),
-    λ p d. viable_alive (m ++ (x ∷ [])) p (dead_along (steps.step v x) (m ++ (x ∷ [])) (has_read_more v m x h) d))
+lives_exact v m x h = (
+  λ alive. alive_viable (m ++ (x ∷ [])) (λ d. alive (ap (λ (u : Config). u.control) (has_read_more v m x h).stands ∙ d)),
+  λ p d. viable_alive (m ++ (x ∷ [])) p (dead_along (steps.step v x) (m ++ (x ∷ [])) (has_read_more v m x h) d),
+)
 
 -- of a program the goal suits the next token
 pub goal_exact : (v : Config) (m ts : List Lexeme) (g : Goal) → steps.goal_of v.control ≡ g → HasRead v m → IsProgram ts → Suits m g ts
@@ -173,9 +174,10 @@ goal_exact v m ts g is h p x others e =
 
 -- and division is the goal exactly where one may come
 pub division_exact : (v : Config) (m : List Lexeme) (n : Bool) (g : Goal) → steps.goal_of v.control ≡ g → HasRead v m → (g ≡ Div) ↔ IsViable (m ++ (mark Slash n ∷ []))
-division_exact v m n g is h =
-    (λ d. (lives_exact v m (mark Slash n) h).0 (division_lives v.control v.frames n (is ∙ d)),
-    λ p. by g (goal_suits v.control v.frames (mark Slash n) g is ((lives_exact v m (mark Slash n) h).1 p)))
+division_exact v m n g is h = (
+  λ d. (lives_exact v m (mark Slash n) h).0 (division_lives v.control v.frames n (is ∙ d)),
+  λ p. by g (goal_suits v.control v.frames (mark Slash n) g is ((lives_exact v m (mark Slash n) h).1 p)),
+)
   where
     by : (k : Goal) → suits (APunct Slash) k ≡ true → k ≡ Div
     by Div s = refl

@@ -13,9 +13,11 @@ enum Verdict {
     Alive,
     /// The token of this number, counted from 1, is the first that nothing can save.
     DeadAt(usize),
+    /// It was asked before a token whether it would live, and answered wrongly.
+    Misjudged,
 }
 
-use Verdict::{Alive, DeadAt, Script};
+use Verdict::{Alive, DeadAt, Misjudged, Script};
 
 /// Pieces, each so many times, that make a text.
 type Pieces = &'static [(usize, &'static str)];
@@ -133,7 +135,11 @@ fn verdict_of(text: &[char]) -> Verdict {
         let Some((lexeme, end)) = next_token(text, place, machine.goal()) else {
             break;
         };
+        let lives = machine.would_live(lexeme.token, lexeme.newline);
         machine.step(lexeme.token, lexeme.newline);
+        if lives == machine.is_dead() {
+            return Misjudged;
+        }
         place = end;
     }
     let whole = place <= text.len() && rest_is_trivia(text, place);

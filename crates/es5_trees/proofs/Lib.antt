@@ -1,5 +1,2 @@
 pub mod Examples
 pub mod ChainLemmas
-pub mod OperandLemmas
-pub mod NoPrograms
-pub mod DivisionLemmas
