@@ -1,45 +1,36 @@
 -- What may follow where an expression is under way, token by token: where the rest may follow behind the
 -- machine's answer, the token and the rest may follow before it.
-use Rattle.std.proofs.Common.{◌≡◌, ℕ, suc, ◌≤◌, Bool, true, false, not, ◌&&◌, ◌||◌, if◌then◌else◌, Option, Some, None, List, [], ◌∷◌, length, ◌⊎◌, inl, inr, refl, sym, ap, subst, ◌∙◌, arith}
+use Rattle.std.proofs.Common.{◌≡◌, Bool, true, false, ◌&&◌, if◌then◌else◌, List, [], ◌∷◌, refl, sym, subst}
 use Rattle.es5_lexer.specs.declared.tokens.Word.{Word}
-use Rattle.es5_lexer.specs.declared.tokens.Word.TheVariants.{New as NewWord, Function as FunctionWord, Var, If as IfWord, Else, Do as DoWord, While, With, For, In, Continue, Break, Return, Throw, Debugger, Switch as SwitchWord, Case, Default, Try as TryWord, Catch as CatchWord, Finally as FinallyWord, This, Instanceof, Delete}
+use Rattle.es5_lexer.specs.declared.tokens.Word.TheVariants.{New as NewWord, Function as FunctionWord, Var, In}
 use Rattle.es5_lexer.specs.declared.tokens.Punct.{Punct}
-use Rattle.es5_lexer.specs.declared.tokens.Punct.TheVariants.{LeftBrace, RightBrace, LeftParen, RightParen, LeftBracket, RightBracket, Dot, Semicolon, Comma, Question, Colon, Assign as Equals, Plus, PlusPlus, MinusMinus, Slash, SlashAssign}
+use Rattle.es5_lexer.specs.declared.tokens.Punct.TheVariants.{LeftBrace, RightBrace, LeftParen, RightParen, LeftBracket, RightBracket, Dot, Semicolon, Comma, Question, Colon, Assign as Equals}
 use Rattle.es5_lexer.specs.declared.tokens.Token.{Token}
-use Rattle.es5_lexer.specs.declared.tokens.Token.TheVariants.{Ident, Get, Set, Word as AWord, EscapedWord, Punct as APunct, Number, Text, Pattern}
+use Rattle.es5_lexer.specs.declared.tokens.Token.TheVariants.{Get, Set, Word as AWord, Punct as APunct}
 use Rattle.es5_lexer.specs.declared.tokens.Lexeme.{Lexeme}
-use Rattle.es5_trees.specs.Words.{lexeme, mark, word, is_ident, is_name, is_key, is_atom, is_update, is_prefix, level, is_binary, is_in, is_assign, is_loop_word, is_jump_word, is_on_line, begins_other, may_begin_statement}
-use Rattle.es5_trees.specs.Trees.{Names, one_name, more_names, Params, no_params, params, End, semicolon, omitted, Expr, one, more, Assign, value, assign, Cond, plain, choice, Binary, operand, operation, Unary, unmarked, prefix, Postfix, left, update, Left, new_left, call_left, New, member, new_new, Call, call, call_call, call_index, call_dot, Member, primary, function_member, member_index, member_dot, new_member, Args, no_args, args, Function, nameless, named, Body, body, Primary, atom, parens, empty_array, array, empty_object, object, comma_object, Items, one_item, more_items, Props, one_prop, more_props, Prop, pair, getter, setter, Decl, bare, initialised, Decls, one_decl, more_decls, Optional, absent, present, Block, braces, Statements, no_statement, more_statements, Statement, block, empty, variables, expression, if_only, if_else, do_while, loop, for, for_var, for_in, for_var_in, jump, jump_to, return_only, return, throw, label, debugger, switch, switch_default, try_catch, try_finally, try_both, Cases, no_case, more_cases, Catch, catch, Finally, finally, Elements, no_element, more_elements, Element, statement, declaration}
-use Rattle.es5_trees.specs.Spelling.{names_text, params_text, end_text, commas, expr_text, assign_text, cond_text, binary_text, unary_text, postfix_text, left_text, new_text, call_text, member_text, args_text, function_text, body_text, primary_text, items_text, props_text, prop_text, decl_text, decls_text, optional_text, block_text, statements_text, statement_text, cases_text, catch_text, finally_text, elements_text, element_text}
-use Rattle.es5_trees.specs.Endings.{Ending, after_operand, after_update, after_name, after_word, postfix_ending, unary_ending, binary_ending, assign_ending, cond_ending, expr_ending, decl_ending, decls_ending, is_held, is_right_brace, may_omit, Ends as EndsWith, is_open}
-use Rattle.es5_trees.specs.Good.{GoodNames, GoodParams, may_stand, GoodExpr, GoodAssign, GoodCond, GoodBinary, GoodUnary, GoodPostfix, GoodLeft, GoodNew, GoodCall, GoodMember, GoodArgs, GoodFunction, GoodBody, GoodPrimary, GoodItems, GoodProps, GoodProp, GoodDecl, GoodDecls, GoodOptional, GoodBlock, GoodStatements, GoodStatement, GoodCases, GoodCatch, GoodFinally, GoodElements, GoodElement}
-use Rattle.es5_machine.specs.Classes.{ending_of, is_question, is_semicolon, is_colon, is_comma, is_equals, is_left_paren, is_right_paren, is_left_brace, is_else, is_while, is_finally, is_case, is_default, is_function}
+use Rattle.es5_trees.specs.Words.{lexeme, mark, word, is_ident, is_name, is_key, is_atom, is_update, is_prefix, level, is_binary, is_assign}
+use Rattle.es5_trees.specs.Trees.{one_name, more_names, no_params, params, semicolon, one, more, value, assign, plain, choice, unmarked, prefix, left, update, Left, new_left, call_left, New, member, new_new, call, call_call, call_index, call_dot, primary, function_member, member_index, member_dot, new_member, no_args, args, nameless, named, body, atom, parens, empty_array, array, empty_object, object, comma_object, one_item, more_items, one_prop, more_props, Prop, pair, getter, setter, Decl, bare, initialised, one_decl, more_decls, absent, present, braces}
+use Rattle.es5_trees.specs.Spelling.{assign_text, unary_text, left_text, new_text, prop_text, decl_text}
+use Rattle.es5_trees.specs.Endings.{Ending, after_operand, after_update, after_name, decl_ending}
+use Rattle.es5_trees.specs.Good.{may_stand, GoodLeft, GoodNew, GoodProp, GoodDecl}
+use Rattle.es5_machine.specs.Classes.{is_question, is_left_paren, is_right_paren}
 use Rattle.es5_machine.specs.declared.states.Role.{Role}
 use Rattle.es5_machine.specs.declared.states.Role.TheVariants.{Plain, Target, Header}
 use Rattle.es5_machine.specs.declared.states.Ends.{Ends}
 use Rattle.es5_machine.specs.declared.states.Ends.TheVariants.{ByFrame, BySemicolon, ByDeclaration}
-use Rattle.es5_machine.specs.declared.states.Part.{Part}
 use Rattle.es5_machine.specs.declared.states.Part.TheVariants.{If, Loop, Switch, DoWhile, Init, First, Next, Test}
-use Rattle.es5_machine.specs.declared.states.BlockKind.{BlockKind}
-use Rattle.es5_machine.specs.declared.states.BlockKind.TheVariants.{Simple, Try as TryBlock, Catch as CatchBlock, Finally as FinallyBlock}
-use Rattle.es5_machine.specs.declared.states.Phase.{Phase}
-use Rattle.es5_machine.specs.declared.states.Phase.TheVariants.{NoClause, InClause, Defaulted}
 use Rattle.es5_machine.specs.declared.states.Owner.{Owner}
 use Rattle.es5_machine.specs.declared.states.Owner.TheVariants.{Declaration, Expression, Getter, Setter, Handler}
 use Rattle.es5_machine.specs.declared.states.Frame.{Frame}
-use Rattle.es5_machine.specs.declared.states.Frame.TheVariants.{Paren, Index, Array, Object, Conditional, Head, Parameters, Braces, Block as BlockFrame, Clauses, Branch, Do}
-use Rattle.es5_machine.specs.declared.states.Control.{Control}
-use Rattle.es5_machine.specs.declared.states.Control.TheVariants.{Between, Need, AfterCatch, AtEnd, AfterJump, AfterReturn, AfterThrow, AfterTry, AfterDefault, Open, Binding, Bound, Operand, Callee, AfterLeft, AfterName, AfterDot, AfterUpdate, AfterAccessor, MayLack, Properties, AfterKey, AfterGet, AfterSet, DeclarationName, FunctionName, FirstParameter, NextParameter, AfterParameter, Dead}
-use Rattle.es5_machine.specs.declared.states.Answer.{Answer}
-use Rattle.es5_machine.specs.declared.states.Answer.TheVariants.{Refuse, Go, Push, Pop, Swap}
-use Rattle.es5_machine.specs.declared.states.Ended.{Ended}
-use Rattle.es5_machine.specs.declared.states.Ended.TheVariants.{ByOperand, ByUpdate, ByName, ByWord}
+use Rattle.es5_machine.specs.declared.states.Frame.TheVariants.{Paren, Index, Array, Object, Conditional, Head, Parameters, Clauses}
+use Rattle.es5_machine.specs.declared.states.Control.TheVariants.{Open, Binding, Bound, Operand, Callee, AfterLeft, AfterDot, AfterKey, AfterGet, AfterSet, DeclarationName, FunctionName, FirstParameter, NextParameter, AfterParameter}
+use Rattle.es5_machine.specs.declared.states.Answer.TheVariants.{Refuse, Go, Push, Pop}
 use Rattle.es5_machine.specs.Steps as steps
 use Rattle.es5_machine.specs.Steps.{Config, at, top_of, popped, without_branches, settled, in_stands, inside, ended, omits, refuses, leaves}
 use Rattle.std.proofs.lemmas.Bool.{leb-true}
 use Rattle.es5_trees.proofs.ChainLemmas.{chain_levels}
-use Rattle.es5_trees.specs.Chains.{Tail, nothing, further, tail_text, GoodTail, chain_ending}
-use Rattle.es5_machine.proofs.Residuals.{MarkThen, mark_then, IdentThen, ident_then, AssignThen, assign_then, CondRest, ends_so, chooses, ChainThen, chain_then, ExprThen, expr_then, MoreThen, closes, goes_on, OptionalThen, optional_then, ItemsThen, no_items, some_items, ItemsMore, items_end, items_on, PropsThen, no_props, some_props, comma_props, PropsMore, props_end, props_on, NamesThen, names_then, FirstNames, no_names, some_names, MoreNames, names_end, names_on, ParamsThen, params_then, BodyThen, body_then, BlockThen, block_then, FunctionThen, nameless_then, named_then, StatementsThen, statements_then, ElementsThen, elements_then, Nothing, nothing_left, EndThen, end_then, ExprEnd, expr_end, ExprMore, expr_ends, expr_on, DeclsEnd, decls_end, DeclsMore, decls_ends, decls_on, StatementThen, statement_then, BranchAfter, if_ends, else_comes, DoThen, do_then, HeadDecls, head_decls, HeadMore, head_ends, head_on, FirstDecls, first_decls, decl_in, FirstMore, first_more, first_in, HeaderThen, header_expr, header_in, InitThen, init_absent, init_header, init_var, CasesThen, cases_then, ClausesThen, clauses_then, default_then, FinallyThen, finally_then, AfterCatchThen, no_finally, some_finally, HandlersThen, handler_finally, handler_catch, HeadOfLeft, in_member, in_call, news_text, head_text, GoodHead, Anything, Context, EndedBy, HeaderBy, RegionBy, LeftBy, AfterBody, AfterBlock, AfterNames, FirstOf, NextOf, LaterOf, LoopBody, LastPart, TestPart, InPart, InClauses, InHead, HeadStart, HeadLacking, HeadBindings, context, After, Region, LeftRest, EndedRest, UnaryRest, StatementRest, BindingRest, StartRest, OpenRest, Rest, Means}
+use Rattle.es5_trees.specs.Chains.{nothing, further, tail_text, chain_ending}
+use Rattle.es5_machine.proofs.Residuals.{MarkThen, mark_then, IdentThen, ident_then, AssignThen, assign_then, ends_so, chooses, ChainThen, chain_then, ExprThen, expr_then, MoreThen, closes, goes_on, OptionalThen, optional_then, ItemsThen, no_items, some_items, ItemsMore, items_end, items_on, PropsThen, no_props, some_props, comma_props, PropsMore, props_end, props_on, NamesThen, names_then, FirstNames, no_names, some_names, MoreNames, names_end, names_on, ParamsThen, params_then, BodyThen, body_then, BlockThen, block_then, FunctionThen, nameless_then, named_then, StatementsThen, statements_then, ElementsThen, elements_then, EndThen, end_then, ExprEnd, expr_end, ExprMore, expr_ends, expr_on, DeclsEnd, decls_end, DeclsMore, decls_ends, decls_on, HeadDecls, head_decls, HeadMore, head_ends, head_on, FirstDecls, first_decls, decl_in, FirstMore, first_more, first_in, HeaderThen, header_expr, header_in, init_absent, init_header, init_var, HeadOfLeft, in_member, in_call, news_text, head_text, GoodHead, HeaderBy, AfterNames, FirstOf, NextOf, LaterOf, LoopBody, LastPart, TestPart, InPart, context, After, Region, LeftRest, EndedRest, UnaryRest, BindingRest, OpenRest, Rest, Means}
 
 pub differ : false ≡ true → ⊥
 differ e = cc

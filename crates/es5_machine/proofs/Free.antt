@@ -1,12 +1,12 @@
 -- The same machine with no bound on its stack, and how deep each token stands that it reads. Where it
 -- stays within the bound the machine does the same; where the machine isn't dead, it does stay within.
-use Rattle.std.proofs.Common.{◌≡◌, ℕ, suc, ◌<◌, ◌≤◌, max, Bool, true, false, if◌then◌else◌, ◌⊎◌, inl, inr, List, [], ◌∷◌, length, refl, sym, ap, subst, ◌∙◌, arith}
+use Rattle.std.proofs.Common.{◌≡◌, ℕ, suc, ◌<◌, ◌≤◌, Bool, true, false, if◌then◌else◌, ◌⊎◌, inl, inr, List, [], ◌∷◌, length, refl, sym, ap, subst, ◌∙◌, arith}
 use Rattle.std.proofs.lemmas.Bool.{cases_lt, lt-ltb, le-ltb}
 use Rattle.es5_lexer.specs.declared.tokens.Token.{Token}
 use Rattle.es5_lexer.specs.declared.tokens.Lexeme.{Lexeme}
 use Rattle.es5_trees.specs.Depths.{greatest}
 use Rattle.es5_machine.specs.declared.states.Frame.{Frame}
-use Rattle.es5_machine.specs.declared.states.Frame.TheVariants.{Paren, Index, Array, Object, Conditional, Head, Parameters, Braces, Block, Clauses, Branch, Do}
+use Rattle.es5_machine.specs.declared.states.Frame.TheVariants.{Branch, Do}
 use Rattle.es5_machine.specs.declared.states.Control.{Control}
 use Rattle.es5_machine.specs.declared.states.Control.TheVariants.{Dead}
 use Rattle.es5_machine.specs.declared.states.Answer.{Answer}

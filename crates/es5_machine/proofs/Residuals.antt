@@ -1,20 +1,18 @@
 -- What may follow where the machine stands, in the terms of the grammar: types of lists of tokens that
 -- hold the trees which are still to come. One line says it for each state and one for each frame; none
 -- mentions what the machine does at a token.
-use Rattle.std.proofs.Common.{◌≡◌, ℕ, suc, ◌≤◌, Bool, true, false, not, ◌&&◌, ◌||◌, if◌then◌else◌, Option, Some, None, List, [], ◌∷◌, length, ◌⊎◌, inl, inr, refl, sym, ap, subst, ◌∙◌, arith}
+use Rattle.std.proofs.Common.{◌≡◌, Bool, true, false, Option, List, [], ◌∷◌}
 use Rattle.es5_lexer.specs.declared.tokens.Word.{Word}
-use Rattle.es5_lexer.specs.declared.tokens.Word.TheVariants.{New as NewWord, Function as FunctionWord, Var, If as IfWord, Else, Do as DoWord, While, With, For, In, Continue, Break, Return, Throw, Debugger, Switch as SwitchWord, Case, Default, Try as TryWord, Catch as CatchWord, Finally as FinallyWord, This, Instanceof, Delete}
+use Rattle.es5_lexer.specs.declared.tokens.Word.TheVariants.{New as NewWord, Var, Else, While, In, Return, Throw, Default, Catch as CatchWord, Finally as FinallyWord}
 use Rattle.es5_lexer.specs.declared.tokens.Punct.{Punct}
-use Rattle.es5_lexer.specs.declared.tokens.Punct.TheVariants.{LeftBrace, RightBrace, LeftParen, RightParen, LeftBracket, RightBracket, Dot, Semicolon, Comma, Question, Colon, Assign as Equals, Plus, PlusPlus, MinusMinus, Slash, SlashAssign}
-use Rattle.es5_lexer.specs.declared.tokens.Token.{Token}
-use Rattle.es5_lexer.specs.declared.tokens.Token.TheVariants.{Ident, Get, Set, Word as AWord, EscapedWord, Punct as APunct, Number, Text, Pattern}
+use Rattle.es5_lexer.specs.declared.tokens.Punct.TheVariants.{LeftBrace, RightBrace, LeftParen, RightParen, RightBracket, Dot, Semicolon, Comma, Question, Colon}
+use Rattle.es5_lexer.specs.declared.tokens.Token.TheVariants.{Get, Set}
 use Rattle.es5_lexer.specs.declared.tokens.Lexeme.{Lexeme}
-use Rattle.es5_trees.specs.Words.{lexeme, mark, word, is_ident, is_name, is_key, is_atom, is_update, is_prefix, level, is_binary, is_in, is_assign, is_loop_word, is_jump_word, is_on_line, begins_other, may_begin_statement}
-use Rattle.es5_trees.specs.Trees.{Names, one_name, more_names, Params, no_params, params, End, semicolon, omitted, Expr, one, more, Assign, value, assign, Cond, plain, choice, Binary, operand, operation, Unary, unmarked, prefix, Postfix, left, update, Left, new_left, call_left, New, member, new_new, Call, call, call_call, call_index, call_dot, Member, primary, function_member, member_index, member_dot, new_member, Args, no_args, args, Function, nameless, named, Body, body, Primary, atom, parens, empty_array, array, empty_object, object, comma_object, Items, one_item, more_items, Props, one_prop, more_props, Prop, pair, getter, setter, Decl, bare, initialised, Decls, one_decl, more_decls, Optional, absent, present, Block, braces, Statements, no_statement, more_statements, Statement, block, empty, variables, expression, if_only, if_else, do_while, loop, for, for_var, for_in, for_var_in, jump, jump_to, return_only, return, throw, label, debugger, switch, switch_default, try_catch, try_finally, try_both, Cases, no_case, more_cases, Catch, catch, Finally, finally, Elements, no_element, more_elements, Element, statement, declaration}
-use Rattle.es5_trees.specs.Spelling.{names_text, params_text, end_text, commas, expr_text, assign_text, cond_text, binary_text, unary_text, postfix_text, left_text, new_text, call_text, member_text, args_text, function_text, body_text, primary_text, items_text, props_text, prop_text, decl_text, decls_text, optional_text, block_text, statements_text, statement_text, cases_text, catch_text, finally_text, elements_text, element_text}
-use Rattle.es5_trees.specs.Endings.{Ending, after_operand, after_update, after_name, after_word, postfix_ending, unary_ending, binary_ending, assign_ending, cond_ending, expr_ending, decl_ending, decls_ending, is_held, is_right_brace, may_omit, Ends as EndsWith, is_open}
-use Rattle.es5_trees.specs.Good.{GoodNames, GoodParams, may_stand, GoodExpr, GoodAssign, GoodCond, GoodBinary, GoodUnary, GoodPostfix, GoodLeft, GoodNew, GoodCall, GoodMember, GoodArgs, GoodFunction, GoodBody, GoodPrimary, GoodItems, GoodProps, GoodProp, GoodDecl, GoodDecls, GoodOptional, GoodBlock, GoodStatements, GoodStatement, GoodCases, GoodCatch, GoodFinally, GoodElements, GoodElement}
-use Rattle.es5_machine.specs.Classes.{ending_of, is_question, is_semicolon, is_colon, is_comma, is_equals, is_left_paren, is_right_paren, is_left_brace, is_else, is_while, is_finally, is_case, is_default, is_function}
+use Rattle.es5_trees.specs.Words.{lexeme, mark, word, is_ident, is_key, is_jump_word}
+use Rattle.es5_trees.specs.Trees.{Names, Params, End, Expr, Assign, Unary, Left, Call, Member, Body, Items, Props, Decl, Decls, Optional, Block, Statements, Statement, Cases, Elements}
+use Rattle.es5_trees.specs.Spelling.{names_text, params_text, end_text, commas, expr_text, assign_text, unary_text, left_text, call_text, member_text, body_text, items_text, props_text, decl_text, decls_text, optional_text, block_text, statements_text, statement_text, cases_text, elements_text}
+use Rattle.es5_trees.specs.Endings.{Ending, after_operand, after_update, after_word, unary_ending, assign_ending, expr_ending, decls_ending, Ends as EndsWith, is_open}
+use Rattle.es5_trees.specs.Good.{GoodNames, GoodParams, GoodExpr, GoodAssign, GoodUnary, GoodLeft, GoodCall, GoodMember, GoodBody, GoodItems, GoodProps, GoodDecl, GoodDecls, GoodOptional, GoodBlock, GoodStatements, GoodStatement, GoodCases, GoodElements}
 use Rattle.es5_machine.specs.declared.states.Role.{Role}
 use Rattle.es5_machine.specs.declared.states.Role.TheVariants.{Plain, Target, Header}
 use Rattle.es5_machine.specs.declared.states.Ends.{Ends}
@@ -22,7 +20,7 @@ use Rattle.es5_machine.specs.declared.states.Ends.TheVariants.{ByFrame, BySemico
 use Rattle.es5_machine.specs.declared.states.Part.{Part}
 use Rattle.es5_machine.specs.declared.states.Part.TheVariants.{If, Loop, Switch, DoWhile, Init, First, Next, Test}
 use Rattle.es5_machine.specs.declared.states.BlockKind.{BlockKind}
-use Rattle.es5_machine.specs.declared.states.BlockKind.TheVariants.{Simple, Try as TryBlock, Catch as CatchBlock, Finally as FinallyBlock}
+use Rattle.es5_machine.specs.declared.states.BlockKind.TheVariants.{Try as TryBlock, Catch as CatchBlock}
 use Rattle.es5_machine.specs.declared.states.Phase.{Phase}
 use Rattle.es5_machine.specs.declared.states.Phase.TheVariants.{NoClause, InClause, Defaulted}
 use Rattle.es5_machine.specs.declared.states.Owner.{Owner}
@@ -33,11 +31,8 @@ use Rattle.es5_machine.specs.declared.states.Control.{Control}
 use Rattle.es5_machine.specs.declared.states.Control.TheVariants.{Between, Need, AfterCatch, AtEnd, AfterJump, AfterReturn, AfterThrow, AfterTry, AfterDefault, Open, Binding, Bound, Operand, Callee, AfterLeft, AfterName, AfterDot, AfterUpdate, AfterAccessor, MayLack, Properties, AfterKey, AfterGet, AfterSet, DeclarationName, FunctionName, FirstParameter, NextParameter, AfterParameter, Dead}
 use Rattle.es5_machine.specs.declared.states.Answer.{Answer}
 use Rattle.es5_machine.specs.declared.states.Answer.TheVariants.{Refuse, Go, Push, Pop, Swap}
-use Rattle.es5_machine.specs.declared.states.Ended.{Ended}
-use Rattle.es5_machine.specs.declared.states.Ended.TheVariants.{ByOperand, ByUpdate, ByName, ByWord}
-use Rattle.es5_machine.specs.Steps as steps
-use Rattle.es5_machine.specs.Steps.{Config, at, top_of, popped, without_branches, settled, in_stands, inside, ended, omits, refuses, leaves}
-use Rattle.es5_trees.specs.Chains.{Tail, nothing, further, tail_text, GoodTail, chain_ending}
+use Rattle.es5_machine.specs.Steps.{top_of, popped, in_stands}
+use Rattle.es5_trees.specs.Chains.{Tail, tail_text, GoodTail, chain_ending}
 
 -- a tree is spelled, and K holds of the rest
 

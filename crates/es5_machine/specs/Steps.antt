@@ -18,7 +18,6 @@ use Rattle.es5_machine.specs.declared.states.Role.{Role}
 use Rattle.es5_machine.specs.declared.states.Role.TheVariants.{Plain, Target, Header}
 use Rattle.es5_machine.specs.declared.states.Ends.{Ends}
 use Rattle.es5_machine.specs.declared.states.Ends.TheVariants.{ByFrame, BySemicolon, ByDeclaration}
-use Rattle.es5_machine.specs.declared.states.Part.{Part}
 use Rattle.es5_machine.specs.declared.states.Part.TheVariants.{If, Loop, Switch, DoWhile, Init, First, Next, Test}
 use Rattle.es5_machine.specs.declared.states.BlockKind.{BlockKind}
 use Rattle.es5_machine.specs.declared.states.BlockKind.TheVariants.{Simple, Try, Catch, Finally}

@@ -59,6 +59,7 @@ fn opening(role: Role, ends: Ends, token: Token) -> Answer
 }
 
 /// Behind a LeftHandSideExpression.
+#[inline(always)]
 pub(crate) fn left(
     role: Role,
     ends: Ends,
@@ -74,6 +75,7 @@ pub(crate) fn left(
     }
 }
 
+#[inline(always)]
 fn left_mark(role: Role, ends: Ends, top: Option<Frame>, mark: Punct, newline: bool) -> Answer
     ensures { result ≡ steps.left_mark role ends top mark newline }
 {
@@ -108,6 +110,7 @@ fn assigned(role: Role, ends: Ends) -> Answer
 }
 
 /// What makes a LeftHandSideExpression longer: members and arguments.
+#[inline(always)]
 fn suffix(role: Role, ends: Ends, top: Option<Frame>, mark: Punct) -> Answer
     ensures { result ≡ steps.suffix role ends top mark }
 {
@@ -120,6 +123,7 @@ fn suffix(role: Role, ends: Ends, top: Option<Frame>, mark: Punct) -> Answer
 }
 
 /// Behind a UnaryExpression: a binary operator, `?`, or the end.
+#[inline(always)]
 pub(crate) fn behind(role: Role, ends: Ends, top: Option<Frame>, token: Token) -> Answer
     ensures { result ≡ steps.behind role ends top token }
 {

@@ -38,11 +38,19 @@ fn refuses(answer: Answer) -> bool
     matches!(answer, Answer::Refuse)
 }
 
+/// Asked for few tokens, so it stays out of the way of the others.
+#[inline(never)]
+fn is_refused(control: Control, top: Option<Frame>, token: Token, newline: bool) -> bool
+    ensures { result ≡ steps.refuses (steps.consume control top token newline) }
+{
+    refuses(consume(control, top, token, newline))
+}
+
 /// Where the machine stands before the token: behind the statement, where its semicolon is left out.
 pub(crate) fn before(control: Control, top: Option<Frame>, token: Token, newline: bool) -> Control
     ensures { result ≡ steps.before control top token newline }
 {
-    if omits(ended(control), token, newline) && refuses(consume(control, top, token, newline)) {
+    if omits(ended(control), token, newline) && is_refused(control, top, token, newline) {
         Control::Between
     } else {
         control

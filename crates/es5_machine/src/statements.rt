@@ -327,6 +327,7 @@ fn after_name(top: Option<Frame>, token: Token, newline: bool) -> Answer
 }
 
 /// What the machine does at a token, where it stands so and the frame is on top.
+#[inline(always)]
 pub(crate) fn consume(control: Control, top: Option<Frame>, token: Token, newline: bool) -> Answer
     ensures { result ≡ steps.consume control top token newline }
 {

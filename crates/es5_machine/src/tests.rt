@@ -152,10 +152,9 @@ fn verdict_of(text: &[char]) -> Verdict {
 
 #[test]
 fn texts_have_their_verdicts(rt: HostRuntime) -> Result<(), Fail> {
-    for (pieces, want) in &ROWS {
+    for (row, (pieces, want)) in ROWS.iter().enumerate() {
         let text = text_of(rt.alloc(), pieces)?;
-        let name = pieces[0].1;
-        assert_eq!(rt; verdict_of(&text), *want, "{name}");
+        assert_eq!(rt; verdict_of(&text), *want, "row {row}");
     }
     Ok(())
 }

@@ -1,4 +1,4 @@
-use Rattle.std.proofs.Common.{◌≡◌, ◌∙◌, sym, ap}
+use Rattle.std.proofs.Common.{◌∙◌, sym, ap}
 use Rattle.es5_machine.specs.Steps.{goal_of}
 use Rattle.es5_machine.proofs.Verdicts.{goal_exact, division_exact}
 use Rattle.es5_machine.proofs.machine.Machine.goal.Goals as goal

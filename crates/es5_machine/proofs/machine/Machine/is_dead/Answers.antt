@@ -1,4 +1,4 @@
-use Rattle.std.proofs.Common.{◌≡◌, ◌∙◌, sym}
+use Rattle.std.proofs.Common.{◌∙◌, sym}
 use Rattle.es5_machine.proofs.Verdicts.{dead_exact, dead_hopeless}
 use Rattle.es5_machine.proofs.machine.Machine.is_dead.Goals as goal
 
