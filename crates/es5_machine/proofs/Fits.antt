@@ -241,14 +241,13 @@ mark_keeps f Semicolon = semicolon_keeps f
 mark_keeps f Colon = colon_keeps f
 mark_keeps f _ = tt
 
+word_keeps : (f : Frame) (x : Word) → Keeps (steps.close_word f x) (Some f)
+word_keeps (Head First) In = (λ u h. h, refl)
+word_keeps _ _ = tt
+
 frame_keeps : (f : Frame) (t : Token) → Keeps (steps.close_frame f t) (Some f)
 frame_keeps f (APunct p) = mark_keeps f p
-frame_keeps (Head First) (AWord In) = (λ u h. h, refl)
 frame_keeps f (AWord x) = word_keeps f x
-  where
-    word_keeps : (g : Frame) (y : Word) → Keeps (steps.close_word g y) (Some g)
-    word_keeps (Head First) In = (λ u h. h, refl)
-    word_keeps _ _ = tt
 frame_keeps f _ = tt
 
 close_keeps : (e : Ends) (top : Option Frame) (t : Token) → holds e top ≡ true → Keeps (steps.close e top t) top

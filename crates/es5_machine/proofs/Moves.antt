@@ -84,9 +84,6 @@ on_between {ds} fs x w a none is takes_it k =
 
 -- what is refused isn't accepted
 
-dead_step : (fs : List Frame) (x : Lexeme) → (step (at Dead fs) x).config ≡ at Dead fs
-dead_step fs x = refl
-
 pub dead_accepts : (fs : List Frame) (w : List Lexeme) → Accepted (at Dead fs) w → ⊥
 dead_accepts fs [] h = differ h
 dead_accepts fs (x ∷ w) h = dead_accepts fs w h
