@@ -129,7 +129,9 @@ fn letter(place: Place, c: char) -> Option<char>
 {
     match place {
         Place::Name => plain_letter(c),
-        Place::Escape(_, Seen::ThreeDigits(a, b, d)) => escaped(a, b, d, c),
+        Place::Escape(_, Seen::ThreeDigits(a, b, d)) => {
+            escaped(char::from(a), char::from(b), char::from(d), c)
+        }
         _ => None,
     }
 }

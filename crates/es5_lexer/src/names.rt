@@ -75,6 +75,10 @@ fn identifier(letters: &[u8]) -> Token
 fn reserved_word(letters: &[u8]) -> Option<Word>
     ensures { result ≡ word_of letters.now }
 {
+    // Many names have one letter, and no word has.
+    if letters.len() < 2 {
+        return None;
+    }
     word_in(&RESERVED, letters)
 }
 

@@ -4,10 +4,10 @@
 //! may come next; [`Place::next`] goes on by one character, and [`Place::ended`] says what token ends
 //! here. Each place keeps at most three characters: those of an escape whose class isn't known yet.
 //! Which word a name is, is asked of its text once it has ended.
-ghost use Rattle.std.specs.Prelude.{◌≡◌, ℕ, List};
+ghost use Rattle.std.specs.Prelude.{◌≡◌, ℕ, List, IsTrue};
 ghost use Rattle.es5_lexer.specs.Tokens.{is_barred};
 ghost use Rattle.es5_lexer.specs.Reading.{token_of};
-ghost use Rattle.es5_lexer.specs.Characters.{is_escape_of};
+ghost use Rattle.es5_lexer.specs.Characters.{is_hex, is_escape_of};
 ghost use Rattle.es5_lexer.specs.Strings.{quote_of};
 ghost use Rattle.es5_lexer.specs.Places.{set_of, is_dead, ended, before_escape, first, behind_slash, behind_mark, behind};
 ghost use Rattle.es5_lexer.specs.Places.{next, next_in_parts, next_in_escape, next_in_mark};
@@ -66,9 +66,9 @@ pub(crate) enum Seen {
     EscapeMark,
     /// `\u`.
     EscapeLetter,
-    OneDigit(char),
-    TwoDigits(char, char),
-    ThreeDigits(char, char, char),
+    OneDigit(u8),
+    TwoDigits(u8, u8),
+    ThreeDigits(u8, u8, u8),
 }
 
 /// What was read last of a number.
@@ -263,9 +263,10 @@ impl Host {
     }
 
     /// Whether the four are the digits of a character that may stand here.
-    fn takes_escape(self, a: char, b: char, c: char, d: char) -> bool
+    fn takes_escape(self, a: u8, b: u8, c: u8, d: char) -> bool
         ensures { result ≡ is_escape_of (set_of self) a b c d }
     {
+        let (a, b, c) = (char::from(a), char::from(b), char::from(c));
         match self {
             Host::FirstChar => escaped_is_start(a, b, c, d),
             Host::LaterChar | Host::FlagChar => escaped_is_part(a, b, c, d),
@@ -292,12 +293,23 @@ fn next_in_escape(host: Host, seen: Seen, c: char) -> Place
 {
     match seen {
         Seen::EscapeMark if c == 'u' => Place::Escape(host, Seen::EscapeLetter),
-        Seen::EscapeLetter if is_hex(c) => Place::Escape(host, Seen::OneDigit(c)),
-        Seen::OneDigit(a) if is_hex(c) => Place::Escape(host, Seen::TwoDigits(a, c)),
-        Seen::TwoDigits(a, b) if is_hex(c) => Place::Escape(host, Seen::ThreeDigits(a, b, c)),
+        Seen::EscapeLetter if is_hex(c) => Place::Escape(host, Seen::OneDigit(digit(c))),
+        Seen::OneDigit(a) if is_hex(c) => Place::Escape(host, Seen::TwoDigits(a, digit(c))),
+        Seen::TwoDigits(a, b) if is_hex(c) => Place::Escape(
+            host,
+            Seen::ThreeDigits(a, b, digit(c)),
+        ),
         Seen::ThreeDigits(a, b, d) if host.takes_escape(a, b, d, c) => host.behind(),
         _ => Place::Dead,
     }
+}
+
+/// A hexadecimal digit as a byte.
+fn digit(c: char) -> u8
+    requires { IsTrue (is_hex c) }
+    ensures { result ≡ c }
+{
+    c as u8
 }
 
 /// Behind a punctuator, and one character more.
