@@ -1,2 +1,3 @@
 pub mod ClassLemmas
 mod DecodingLemmas
+mod DecoderLemmas

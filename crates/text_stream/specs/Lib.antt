@@ -1,3 +1,5 @@
 pub mod Classes
 pub mod Decoding
 pub mod Lending
+pub mod DecoderStages
+pub mod Decoder

@@ -15,7 +15,8 @@ use std::marker::Model;
 #[derive(Clone, Copy, Debug, PartialEq, Eq)]
 pub struct NoMemory;
 
-const BYTE_ORDER_MARK: &[u8] = b"\xEF\xBB\xBF";
+/// EF BB BF (The Unicode Standard, 23.8).
+pub const BYTE_ORDER_MARK: &[u8] = b"\xEF\xBB\xBF";
 
 /// The characters of the bytes. [`NoMemory`] where there is no memory for one character a byte.
 #[tactic(auto, unfolding(crate::specs::Decoding::characters_of))]
@@ -105,7 +106,7 @@ fn append_characters(text: &mut Vec<char>, bytes: &[u8])
 }
 
 /// The character at the front of the bytes, and how many of them it takes.
-fn first_character(bytes: &[u8]) -> (char, usize)
+pub fn first_character(bytes: &[u8]) -> (char, usize)
     requires { 0 < length bytes.now }
     ensures character { result.0 ≡ or_replacement (decoded bytes.now).char }
     ensures size { result.1 ≡ further_bytes (decoded bytes.now) + 1 }

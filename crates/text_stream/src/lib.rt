@@ -7,9 +7,11 @@
 #![tactic(auto)]
 
 mod classes;
+mod decoder;
 mod decoding;
 mod laws;
 
 pub use classes::{CharClass, class_of};
+pub use decoder::Decoder;
 pub use decoding::{NoMemory, TextRoom, decode_slice};
 pub use laws::{classes_are_sets, text_reads_as_written};

@@ -1,0 +1,30 @@
+-- Decoders: what one knows of the bytes that were read and of the characters that were given.
+use Rattle.std.specs.Prelude.{◌≡◌, ◌≢◌, ℕ, ◌<◌, List, [], ◌∷◌, ◌++◌}
+use Rattle.text_stream.specs.declared.decoder.Stage.{Stage}
+use Rattle.text_stream.specs.declared.decoder.Stage.TheVariants.{Front, Within, Finished}
+use Rattle.text_stream.specs.declared.decoder.Decoder.{Decoder}
+use Rattle.text_stream.specs.Decoding.{characters_of, characters_behind}
+
+-- the decoder isn't finished
+abbrev pub CanDecode : Decoder → Type 0
+CanDecode decoder = decoder.stage ≢ Finished
+
+-- the characters that come once more bytes have come: those of what is pending and of these
+abbrev pub ahead_at : Stage → List ℕ → List ℕ
+ahead_at Front text = characters_of text
+ahead_at Within text = characters_behind 0 text
+ahead_at Finished text = []
+
+abbrev pub ahead : Decoder → List ℕ → List ℕ
+ahead decoder more = ahead_at decoder.stage (decoder.pending.items ++ more)
+
+-- the decoder was fed the bytes and gave these characters: whatever follows, the characters of the whole are those given and
+-- those of what is pending and what follows
+pub record HasRead (decoder : Decoder) (bytes given : List ℕ) : Type 0 where
+  pub can : CanDecode decoder
+  pub gives : (more : List ℕ) → characters_of (bytes ++ more) ≡ given ++ ahead decoder more
+
+-- a byte below 128 is its character
+abbrev pub PassesAscii : Decoder → Type 0
+PassesAscii decoder = (bytes given : List ℕ) (b : ℕ) → b < 128 → HasRead decoder bytes given
+    → HasRead decoder (bytes ++ b ∷ []) (given ++ b ∷ [])
