@@ -134,7 +134,7 @@ char-no_end (unescaped c) rest good = cond-false (c == 0x22) _ _ (unescaped-no_e
 char-no_end (escaped c) rest good = refl
 char-no_end (unicode a b c d) rest good = refl
 
-char-longer : (ch : Char) (rest : List ℕ) → length rest < length (char_text ch rest)
+pub char-longer : (ch : Char) (rest : List ℕ) → length rest < length (char_text ch rest)
 char-longer (unescaped c) rest = omega arith
 char-longer (escaped c) rest = omega arith
 char-longer (unicode a b c d) rest = omega arith
@@ -179,12 +179,12 @@ number-longer n rest =
     exp-longer no_exp rest = omega arith
     exp-longer (exp e s d ds) rest = let h = sign-longer s (d ∷ (ds ++ rest)) in omega (arith, length-append ds rest)
 
-chars-longer : (cs : List Char) (rest : List ℕ) → length rest < length (chars_text cs rest)
+pub chars-longer : (cs : List Char) (rest : List ℕ) → length rest < length (chars_text cs rest)
 chars-longer [] rest = omega arith
 chars-longer (c ∷ cs) rest = let h = char-longer c (chars_text cs rest) in let k = chars-longer cs rest in omega arith
 
 mutual
-  value-longer : (v : Value) (rest : List ℕ) → length rest < length (value_text v rest)
+  pub value-longer : (v : Value) (rest : List ℕ) → length rest < length (value_text v rest)
   value-longer false_literal rest = omega arith
   value-longer null_literal rest = omega arith
   value-longer true_literal rest = omega arith
@@ -200,7 +200,7 @@ mutual
   members-longer (member_and m ms) rest =
       let h = member-longer m (0x2C ∷ members_text ms rest) in let k = members-longer ms rest in omega arith
 
-  member-longer : (m : Member) (rest : List ℕ) → length rest < length (member_text m rest)
+  pub member-longer : (m : Member) (rest : List ℕ) → length rest < length (member_text m rest)
   member-longer (member before name behind e) rest =
       let h = element-longer e rest in
       let k = chars-longer name (behind ++ (0x3A ∷ element_text e rest)) in
@@ -211,7 +211,7 @@ mutual
   elements-longer (element_and e es) rest =
       let h = element-longer e (0x2C ∷ elements_text es rest) in let k = elements-longer es rest in omega arith
 
-  element-longer : (e : Element) (rest : List ℕ) → length rest < length (element_text e rest)
+  pub element-longer : (e : Element) (rest : List ℕ) → length rest < length (element_text e rest)
   element-longer (element before v behind) rest =
       let h = value-longer v (behind ++ rest) in
       omega (arith, length-append behind rest, length-append before (value_text v (behind ++ rest)))

@@ -3,3 +3,6 @@ mod LoopLemmas
 mod Soundness
 mod Tools
 mod VerdictLemmas
+mod FuelLemmas
+mod ResidualLemmas
+mod EndLemmas

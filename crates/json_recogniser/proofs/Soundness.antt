@@ -154,12 +154,12 @@ word-cut word text rest h =
 
 -- ---- values
 
-open_of : Container → ℕ
+pub open_of : Container → ℕ
 open_of Array = 0x5B
 open_of Object = 0x7B
 
 -- what the function gives is behind an array or object of at most so many levels
-IsSound : ℕ → (Container → List ℕ → Option (List ℕ)) → Type 0
+pub IsSound : ℕ → (Container → List ℕ → Option (List ℕ)) → Type 0
 IsSound levels contents =
     (container : Container) (text rest : List ℕ) → contents container text ≡ Some rest → (v : Value) × IsGood v × (depth v ≤ levels) × (open_of container ∷ text ≡ value_text v rest)
 
@@ -173,7 +173,7 @@ separated more close text rest h =
     by_comma None is h = inr (one_char close text rest h)
 
 module _ (levels : ℕ) (contents : Container → List ℕ → Option (List ℕ)) (sound : IsSound levels contents) where
-  value-cut : (text rest : List ℕ) → behind_value_by contents text ≡ Some rest → (v : Value) × IsGood v × (depth v ≤ levels) × (text ≡ value_text v rest)
+  pub value-cut : (text rest : List ℕ) → behind_value_by contents text ≡ Some rest → (v : Value) × IsGood v × (depth v ≤ levels) × (text ≡ value_text v rest)
   unfolding open_of IsSound
   value-cut [] rest h = nothing h
   value-cut (c ∷ text) rest h =
@@ -219,7 +219,7 @@ module _ (levels : ℕ) (contents : Container → List ℕ → Option (List ℕ)
   spaces-cut : (text : List ℕ) → (ws : List ℕ) × AreSpaces ws × (text ≡ ws ++ behind_spaces text)
   spaces-cut text = leading is_white_space text
 
-  element-cut : (text rest : List ℕ) → behind_element_by contents text ≡ Some rest → (e : Element) × IsGoodElement e × (element_depth e ≤ levels) × (text ≡ element_text e rest)
+  pub element-cut : (text rest : List ℕ) → behind_element_by contents text ≡ Some rest → (e : Element) × IsGoodElement e × (element_depth e ≤ levels) × (text ≡ element_text e rest)
   element-cut text rest h =
       let m = mapped behind_spaces (behind_value_by contents (behind_spaces text)) rest h in
       let before = spaces-cut text in
@@ -231,7 +231,7 @@ module _ (levels : ℕ) (contents : Container → List ℕ → Option (List ℕ)
         before.2 ∙ ap (λ t. before.0 ++ t) (v.3 ∙ ap (λ t. value_text v.0 t) (behind.2 ∙ ap (λ t. behind.0 ++ t) m.2)),
       )
 
-  name-cut : (text rest : List ℕ) → behind_name text ≡ Some rest → (ws : List ℕ) × (cs : List Char) × AreSpaces ws × AreGoodChars cs × (text ≡ ws ++ string_text cs rest)
+  pub name-cut : (text rest : List ℕ) → behind_name text ≡ Some rest → (ws : List ℕ) × (cs : List Char) × AreSpaces ws × AreGoodChars cs × (text ≡ ws ++ string_text cs rest)
   name-cut text rest h =
       let s = both_steps behind_string (behind_char 0x22 (behind_spaces text)) rest h in
       let ws = spaces-cut text in
@@ -243,12 +243,12 @@ module _ (levels : ℕ) (contents : Container → List ℕ → Option (List ℕ)
         ws.2 ∙ ap (λ t. ws.0 ++ t) (one_char 0x22 _ s.0 s.1 ∙ ap (λ t. 0x22 ∷ t) cs.2),
       )
 
-  colon-cut : (text rest : List ℕ) → behind_colon text ≡ Some rest → (ws : List ℕ) × AreSpaces ws × (text ≡ ws ++ (0x3A ∷ rest))
+  pub colon-cut : (text rest : List ℕ) → behind_colon text ≡ Some rest → (ws : List ℕ) × AreSpaces ws × (text ≡ ws ++ (0x3A ∷ rest))
   colon-cut text rest h =
       let ws = spaces-cut text in
       (ws.0, ws.1, ws.2 ∙ ap (λ t. ws.0 ++ t) (one_char 0x3A _ rest h))
 
-  member-cut : (text rest : List ℕ) → behind_member_by contents text ≡ Some rest → (m : Member) × IsGoodMember m × (member_depth m ≤ levels) × (text ≡ member_text m rest)
+  pub member-cut : (text rest : List ℕ) → behind_member_by contents text ≡ Some rest → (m : Member) × IsGoodMember m × (member_depth m ≤ levels) × (text ≡ member_text m rest)
   member-cut text rest h =
       let s = both_steps (behind_element_by contents) (option_and_then behind_colon (behind_name text)) rest h in
       let r = both_steps behind_colon (behind_name text) s.0 s.1 in
@@ -295,7 +295,7 @@ module _ (levels : ℕ) (contents : Container → List ℕ → Option (List ℕ)
         | inr last ↦ (last_member m.0, m.1, m.2, m.3 ∙ ap (λ t. member_text m.0 t) last)
       ]
 
-contents-cut : (levels : ℕ) → IsSound levels (behind_contents levels)
+pub contents-cut : (levels : ℕ) → IsSound levels (behind_contents levels)
 unfolding behind_contents open_of IsSound
 contents-cut zero container text rest h = nothing h
 contents-cut (suc levels) Array text rest h =

@@ -9,7 +9,10 @@
 #![tactic(auto)]
 
 mod numbers;
+mod machine;
 mod pieces;
+mod states;
+mod steps;
 mod strings;
 #[cfg(test)]
 mod tests;

@@ -9,11 +9,12 @@ use crate::pieces::{behind, behind_spaces, behind_word};
 use crate::strings::string;
 
 /// How many arrays and objects may stand inside one another.
-const MOST_LEVELS: usize = 1024;
+pub const MOST_LEVELS: usize = 1024;
 
 /// What holds values.
-#[derive(Clone, Copy)]
-enum Container {
+#[derive(Clone, Copy, Debug, Default, PartialEq, Eq)]
+pub enum Container {
+    #[default]
     Array,
     Object,
 }

@@ -74,10 +74,17 @@ impl Decoder {
         ensures value { (bytes given : List ℕ) → HasRead self.old bytes given → given ++ result.items ≡ characters_of bytes }
         ensures none { (bytes given : List ℕ) → ¬ HasRead self.new bytes given }
     {
-        let given = read_all(self.pending.as_slice());
+        let given = self.ending();
         self.pending.clear();
         self.stage = Stage::Finished;
         given
+    }
+
+    /// The characters of the bytes that are pending, if these are the last.
+    pub fn ending(&self) -> ArrayVec<char, 3>
+        ensures { (bytes given : List ℕ) → HasRead self.now bytes given → given ++ result.items ≡ characters_of bytes }
+    {
+        read_all(self.pending.as_slice())
     }
 
     /// Whether some bytes are pending, or the text hasn't begun. Where it is false, a byte below 128 is its character.

@@ -3,12 +3,12 @@ use Rattle.text_stream.specs.Decoding.{characters_of, characters_behind}
 use Rattle.text_stream.specs.DecoderStages.{most_pending}
 use Rattle.text_stream.specs.Decoder.{ahead_at}
 use Rattle.text_stream.proofs.DecoderLemmas.{at_end}
-use Rattle.text_stream.proofs.decoder.Decoder.finish.Goals as goal
+use Rattle.text_stream.proofs.decoder.Decoder.ending.Goals as goal
 
-pub returns-clause-value : goal.returns-clause-value
-returns-clause-value c = λ bytes given h.
+pub returns : goal.returns
+returns c = λ bytes given h.
     let old = c.args.self.now in
-    ap (λ t. given ++ t) (c.read_all-given.ensures ∙ ap (characters_behind 0) c.as_slice.ensures.value
+    ap (λ t. given ++ t) (c.read_all.ensures ∙ ap (characters_behind 0) c.as_slice.ensures.value
     ∙ sym (at_end old.stage old.pending.items h.can (λ front. rw (ap most_pending front) at old.few))
     ∙ ap (ahead_at old.stage) (sym (append-nil old.pending.items)))
     ∙ sym (h.gives []) ∙ ap characters_of (append-nil bytes)

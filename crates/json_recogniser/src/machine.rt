@@ -1,0 +1,91 @@
+//! The machine: a state, and a mark for each array and object that is open.
+ghost use Rattle.std.specs.Prelude.{◌≡◌, ◌∷◌, [], ℕ, List};
+ghost use Rattle.json_recogniser.specs.Residuals.{is_json, may_end};
+
+use arrayvec::ArrayVec;
+
+use crate::states::{Move, Part, State};
+use crate::steps::next;
+use crate::values::{Container, MOST_LEVELS};
+
+/// Reads characters, one after the other.
+#[derive(Drop)]
+pub struct Machine {
+    state: State,
+    /// What is open, the innermost last.
+    marks: ArrayVec<Container, MOST_LEVELS>,
+}
+
+impl Machine {
+    ghost use Rattle.json_recogniser.specs.Machines.{comes};
+
+    /// A machine at the front of a text.
+    pub fn new() -> Machine
+        ensures { (text : List ℕ) → comes result text ≡ is_json text }
+    {
+        Machine {
+            state: State::Value,
+            marks: ArrayVec::new(),
+        }
+    }
+
+    /// The same machine once more.
+    pub fn copy(&self) -> Machine
+        ensures { (text : List ℕ) → comes result text ≡ comes self.now text }
+    {
+        let mut marks = ArrayVec::new();
+        let _ = marks.try_extend_from_slice(self.marks.as_slice());
+        Machine {
+            state: self.state,
+            marks,
+        }
+    }
+
+    /// Goes on by a character.
+    pub fn take(&mut self, c: char)
+        ensures { (text : List ℕ) → comes self.new text ≡ comes self.old (c ∷ text) }
+    {
+        let step = next(self.state, self.marks.as_slice().last().copied(), c);
+        self.state = step.state;
+        match step.marks {
+            Move::Stay => {}
+            Move::Open(container) => {
+                if self.marks.is_full() {
+                    self.state = State::Dead;
+                } else {
+                    self.marks.push(container);
+                }
+            }
+            Move::Close => {
+                if self.marks.pop().is_none() {
+                    self.state = State::Dead;
+                }
+            }
+        }
+    }
+
+    /// Whether the text may end here.
+    pub fn is_whole(&self) -> bool
+        ensures { result ≡ comes self.now [] }
+    {
+        may_end(self.state) && self.marks.is_empty()
+    }
+
+    /// Where the machine stands.
+    pub fn state(&self) -> State
+        ensures { result ≡ self.now.state }
+    {
+        self.state
+    }
+}
+
+/// Whether a text may end in the state, where nothing is open.
+fn may_end(state: State) -> bool
+    ensures { result ≡ may_end state }
+{
+    matches!(
+        state,
+        State::After
+            | State::Number(Part::Zero | Part::Integer | Part::Fraction | Part::Exponent)
+    )
+}

@@ -1,0 +1,96 @@
+//! The states of a JSON test: where in the grammar of RFC 8259 it stands.
+//!
+//! A state is named for what is expected next, and has what that needs. What the arrays and objects around it expect is kept
+//! beside it, one mark for each that is open.
+
+use crate::values::Container;
+
+/// What is expected next.
+#[derive(Clone, Copy, Debug)]
+pub enum State {
+    /// White space or a value: at the front, and behind a colon.
+    Value,
+    /// Behind the bracket that opens: white space, an item, or the bracket that closes.
+    First,
+    /// Behind a comma: white space or an item, which is a value in an array and a name in an object.
+    Item,
+    /// Behind a name: white space or a colon.
+    Colon,
+    /// Behind a value: white space, a comma, the bracket that closes, or the end.
+    After,
+    /// In a string: a character, or the quotation mark that ends it.
+    Text(Role),
+    /// Behind a reverse solidus.
+    Escape(Role),
+    /// Behind `\u`: a hexadecimal digit, and so many more.
+    Hex(Role, u8),
+    /// In a number.
+    Number(Part),
+    /// In a literal name.
+    Word(Letters),
+    /// Nothing: no text that begins so is JSON.
+    Dead,
+}
+
+/// What a string is.
+#[derive(Clone, Copy, Debug)]
+pub enum Role {
+    /// The name of a member.
+    Name,
+    /// A value.
+    Value,
+}
+
+/// Behind which part of a number one stands (RFC 8259 section 6).
+#[derive(Clone, Copy, Debug)]
+pub enum Part {
+    /// The minus: a digit comes.
+    Minus,
+    /// A leading zero: no further digit comes.
+    Zero,
+    /// A digit of the integer.
+    Integer,
+    /// The decimal point: a digit comes.
+    Point,
+    /// A digit of the fraction.
+    Fraction,
+    /// `e`: a sign or a digit comes.
+    E,
+    /// The sign of the exponent: a digit comes.
+    Sign,
+    /// A digit of the exponent.
+    Exponent,
+}
+
+/// The letters of a literal name that are still to come.
+#[derive(Clone, Copy, Debug)]
+pub enum Letters {
+    /// Of `false`.
+    Alse,
+    Lse,
+    Se,
+    /// Of `false` and `true`.
+    E,
+    /// Of `true`.
+    Rue,
+    Ue,
+    /// Of `null`.
+    Ull,
+    Ll,
+    L,
+}
+
+/// What becomes of the marks of the arrays and objects that are open.
+#[derive(Clone, Copy, Debug)]
+pub enum Move {
+    Stay,
+    Open(Container),
+    Close,
+}
+
+/// A state, and a move of the marks.
+#[derive(Clone, Copy, Debug)]
+pub struct Step {
+    pub state: State,
+    pub marks: Move,
+}
