@@ -1,17 +1,15 @@
 -- Where a text may end.
-use Rattle.std.proofs.Common.{◌≡◌, ℕ, Bool, true, false, ◌&&◌, List, [], ◌∷◌, reverse, length, Some, None, option_and_then, option_map, refl, sym, ap, ◌∙◌, arith, ◌==◌}
+use Rattle.std.proofs.Common.{◌≡◌, Bool, true, false, ◌&&◌, List, [], ◌∷◌, reverse, length, refl, sym, ap, ◌∙◌, arith, ◌==◌}
 use Rattle.std.proofs.lemmas.List.{length-reverse}
 use Rattle.std.proofs.lemmas.Bool.Decides.{nat_tests}
 use Rattle.json_recogniser.specs.declared.values.Container.{Container}
 use Rattle.json_recogniser.specs.declared.values.Container.TheVariants.{Array, Object}
 use Rattle.json_recogniser.specs.declared.states.State.{State}
 use Rattle.json_recogniser.specs.declared.states.State.TheVariants as state
-use Rattle.json_recogniser.specs.declared.states.Role.{Role}
-use Rattle.json_recogniser.specs.declared.states.Role.TheVariants as role
 use Rattle.json_recogniser.specs.declared.states.Part.TheVariants as part
 use Rattle.json_recogniser.specs.declared.states.Letters.TheVariants as letters
 use Rattle.json_recogniser.specs.Reading.{behind_chars, behind_items, behind_contents}
-use Rattle.json_recogniser.specs.Residuals.{residual, may_end, is_nothing}
+use Rattle.json_recogniser.specs.Residuals.{residual, may_end}
 
 -- nothing is open
 abbrev pub is_bare : List Container → Bool
@@ -58,6 +56,6 @@ ends_at state.Dead marks = refl
 
 pub bare_reverse : (marks : List Container) (empty : Bool) → empty ≡ (length marks == 0) → empty ≡ is_bare (reverse marks)
 bare_reverse marks empty is = is ∙ ap (λ n. n == 0) (sym (length-reverse marks)) ∙ by_length (reverse marks) where
-    by_length : (marks : List Container) → (length marks == 0) ≡ is_bare marks
-    by_length [] = refl
-    by_length (kind ∷ marks) = grind (arith, nat_tests)
+  by_length : (marks : List Container) → (length marks == 0) ≡ is_bare marks
+  by_length [] = refl
+  by_length (kind ∷ marks) = grind (arith, nat_tests)

@@ -1,5 +1,5 @@
 -- The counts of the loops don't matter, where they are above the text's length: each piece that is read is shorter than the text.
-use Rattle.std.proofs.Common.{◌≡◌, ℕ, zero, suc, ◌<◌, Bool, true, false, List, [], ◌∷◌, length, Option, Some, None, option_and_then, refl, sym, ap, ◌∙◌, length-append, ◌≤◌, arith}
+use Rattle.std.proofs.Common.{◌≡◌, ℕ, zero, suc, ◌<◌, List, ◌∷◌, length, Option, Some, None, option_and_then, refl, ap, length-append, ◌≤◌, arith}
 use Rattle.std.specs.Option.{option_or}
 use Rattle.json_recogniser.specs.declared.values.Container.{Container}
 use Rattle.json_recogniser.specs.declared.values.Container.TheVariants.{Array, Object}
@@ -71,16 +71,16 @@ items_fuel item close zero m text shorter more most = absurd (omega arith)
 items_fuel item close (suc n) zero text shorter more most = absurd (omega arith)
 items_fuel item close (suc n) (suc m) text shorter more most =
     go_on (item text) (λ rest others is comma.
-        let h = shorter text rest is in
-        let k = ap length (one_char 0x2C rest others comma) in
-        items_fuel item close n m others shorter (omega arith) (omega arith)) where
+    let h = shorter text rest is in
+    let k = ap length (one_char 0x2C rest others comma) in
+    items_fuel item close n m others shorter (omega arith) (omega arith)) where
       go_on : (o : Option (List ℕ))
           → ((rest others : List ℕ) → o ≡ Some rest → behind_char 0x2C rest ≡ Some others → behind_items item close n others ≡ behind_items item close m others)
           → option_and_then (λ rest. behind_separator (behind_items item close n) (behind_char 0x2C rest) close rest) o
           ≡ option_and_then (λ rest. behind_separator (behind_items item close m) (behind_char 0x2C rest) close rest) o
       go_on None same = refl
       go_on (Some rest) same = comma (behind_char 0x2C rest) refl where
-          comma : (o : Option (List ℕ)) → behind_char 0x2C rest ≡ o
-              → behind_separator (behind_items item close n) o close rest ≡ behind_separator (behind_items item close m) o close rest
-          comma None is = refl
-          comma (Some others) is = same rest others refl is
+        comma : (o : Option (List ℕ)) → behind_char 0x2C rest ≡ o
+            → behind_separator (behind_items item close n) o close rest ≡ behind_separator (behind_items item close m) o close rest
+        comma None is = refl
+        comma (Some others) is = same rest others refl is

@@ -6,3 +6,5 @@ mod VerdictLemmas
 mod FuelLemmas
 mod ResidualLemmas
 mod EndLemmas
+mod RunLemmas
+mod JsonTestLemmas

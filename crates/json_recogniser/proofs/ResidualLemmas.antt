@@ -1,5 +1,5 @@
 -- Residuals: what the pieces of the grammar leave, said in two ways.
-use Rattle.std.proofs.Common.{◌≡◌, ℕ, zero, suc, ◌-◌, ◌<◌, ◌≤◌, Bool, true, false, cond, ◌&&◌, ◌==◌, nat_lt, List, [], ◌∷◌, length, Option, Some, None, option_and_then, option_map, refl, sym, ap, ◌∙◌, inl, inr, arith}
+use Rattle.std.proofs.Common.{◌≡◌, ℕ, suc, ◌-◌, ◌<◌, Bool, true, false, cond, ◌&&◌, ◌==◌, nat_lt, List, [], ◌∷◌, length, Option, Some, None, option_and_then, option_map, refl, sym, ap, ◌∙◌, inl, inr, arith}
 use Rattle.std.specs.Option.{option_or}
 use Rattle.std.specs.Char.{is_ascii_hexdigit}
 use Rattle.std.proofs.lemmas.Bool.{cases_Bool}
@@ -11,11 +11,11 @@ use Rattle.json_recogniser.specs.declared.states.State.TheVariants.{First}
 use Rattle.json_recogniser.specs.declared.states.Role.{Role}
 use Rattle.json_recogniser.specs.declared.states.Step.{Step}
 use Rattle.json_recogniser.specs.Grammar.{is_white_space, is_unescaped}
-use Rattle.json_recogniser.specs.Reading.{behind_spaces, behind_char, behind_name, behind_colon, behind_hex, behind_escape, behind_string, behind_string_char, behind_chars, behind_separator, behind_items, behind_all_items, behind_item_by, behind_element_by, behind_value_by, behind_value, behind_contents, close_of}
+use Rattle.json_recogniser.specs.Reading.{behind_spaces, behind_char, behind_name, behind_colon, behind_hex, behind_escape, behind_string, behind_chars, behind_separator, behind_items, behind_element_by, behind_value, behind_contents, close_of}
 use Rattle.json_recogniser.specs.Residuals.{through, item_in, items_in, after_residual, value_residual, name_residual, colon_residual, first_residual, item_residual, behind_text, behind_hexes, residual_of_text, moved_by, moved, mark_of}
 use Rattle.json_recogniser.proofs.Soundness.{one_char, escape-cut}
 use Rattle.json_recogniser.proofs.Completeness.{char-longer}
-use Rattle.json_recogniser.proofs.FuelLemmas.{chars_fuel, items_fuel, shorter_item, shorter_value, shorter_name, shorter_colon, spaces_shorter, shorter_char}
+use Rattle.json_recogniser.proofs.FuelLemmas.{chars_fuel, items_fuel, shorter_item, shorter_value, shorter_name, shorter_colon, spaces_shorter}
 
 -- ---- brackets that open
 
@@ -38,20 +38,20 @@ opens kind marks text =
 behind_item : (kind : Container) (marks : List Container) (n : ℕ) (read : Option (List ℕ))
     → ((rest : List ℕ) → read ≡ Some rest → length rest < n)
     → through (after_residual marks)
-        (option_and_then (λ rest. behind_separator (behind_items (item_in marks kind) (close_of kind) n) (behind_char 0x2C rest) (close_of kind) rest)
-            (option_map behind_spaces read))
+    (option_and_then (λ rest. behind_separator (behind_items (item_in marks kind) (close_of kind) n) (behind_char 0x2C rest) (close_of kind) rest)
+    (option_map behind_spaces read))
     ≡ through (after_residual (kind ∷ marks)) read
 behind_item kind marks n None shorter = refl
 behind_item kind marks n (Some rest) shorter = ap (through (after_residual marks)) (comma (behind_char 0x2C (behind_spaces rest)) refl) where
-    comma : (o : Option (List ℕ)) → behind_char 0x2C (behind_spaces rest) ≡ o
-        → behind_separator (behind_items (item_in marks kind) (close_of kind) n) o (close_of kind) (behind_spaces rest)
-        ≡ behind_separator (items_in marks kind) o (close_of kind) (behind_spaces rest)
-    comma None is = refl
-    comma (Some others) is =
-        let within = shorter rest refl in
-        let fewer = spaces_shorter rest in
-        let one = ap length (one_char 0x2C (behind_spaces rest) others is) in
-        items_fuel (item_in marks kind) (close_of kind) n (suc (length others)) others (shorter_item (1023 - length marks) kind) (omega arith) (omega arith)
+  comma : (o : Option (List ℕ)) → behind_char 0x2C (behind_spaces rest) ≡ o
+      → behind_separator (behind_items (item_in marks kind) (close_of kind) n) o (close_of kind) (behind_spaces rest)
+      ≡ behind_separator (items_in marks kind) o (close_of kind) (behind_spaces rest)
+  comma None is = refl
+  comma (Some others) is =
+      let within = shorter rest refl in
+      let fewer = spaces_shorter rest in
+      let one = ap length (one_char 0x2C (behind_spaces rest) others is) in
+      items_fuel (item_in marks kind) (close_of kind) n (suc (length others)) others (shorter_item (1023 - length marks) kind) (omega arith) (omega arith)
 
 -- the levels that are left inside
 inside : (kind : Container) (marks : List Container) → 1024 - length (kind ∷ marks) ≡ 1023 - length marks
@@ -61,43 +61,43 @@ pub item_of_array : (marks : List Container) (text : List ℕ) → item_residual
 unfolding behind_items
 item_of_array marks text =
     behind_item Array marks (length text) (behind_value (1023 - length marks) (behind_spaces text))
-        (λ rest is. let fewer = shorter_value (1023 - length marks) (behind_spaces text) rest is in let spaces = spaces_shorter text in omega arith)
+    (λ rest is. let fewer = shorter_value (1023 - length marks) (behind_spaces text) rest is in let spaces = spaces_shorter text in omega arith)
     ∙ ap (λ l. through (after_residual (Array ∷ marks)) (behind_value l (behind_spaces text))) (sym (inside Array marks))
 
 pub item_of_object : (marks : List Container) (text : List ℕ) → item_residual (Object ∷ marks) text ≡ name_residual (Object ∷ marks) text
 unfolding behind_items
 item_of_object marks text = name (behind_name text) refl where
-    step : ℕ → List ℕ → Option (List ℕ)
-    step n rest = behind_separator (behind_items (item_in marks Object) 0x7D n) (behind_char 0x2C rest) 0x7D rest
+  step : ℕ → List ℕ → Option (List ℕ)
+  step n rest = behind_separator (behind_items (item_in marks Object) 0x7D n) (behind_char 0x2C rest) 0x7D rest
 
-    value : (rest : List ℕ) → length rest < length text
-        → through (after_residual marks) (option_and_then (λ r. behind_separator (behind_items (item_in marks Object) 0x7D (length text)) (behind_char 0x2C r) 0x7D r)
-            (behind_element_by (behind_contents (1023 - length marks)) rest))
-        ≡ value_residual (Object ∷ marks) rest
-    value rest within =
-        behind_item Object marks (length text) (behind_value (1023 - length marks) (behind_spaces rest))
-            (λ more is. let fewer = shorter_value (1023 - length marks) (behind_spaces rest) more is in let spaces = spaces_shorter rest in omega arith)
-        ∙ ap (λ l. through (after_residual (Object ∷ marks)) (behind_value l (behind_spaces rest))) (sym (inside Object marks))
+  value : (rest : List ℕ) → length rest < length text
+      → through (after_residual marks) (option_and_then (λ r. behind_separator (behind_items (item_in marks Object) 0x7D (length text)) (behind_char 0x2C r) 0x7D r)
+      (behind_element_by (behind_contents (1023 - length marks)) rest))
+      ≡ value_residual (Object ∷ marks) rest
+  value rest within =
+      behind_item Object marks (length text) (behind_value (1023 - length marks) (behind_spaces rest))
+      (λ more is. let fewer = shorter_value (1023 - length marks) (behind_spaces rest) more is in let spaces = spaces_shorter rest in omega arith)
+      ∙ ap (λ l. through (after_residual (Object ∷ marks)) (behind_value l (behind_spaces rest))) (sym (inside Object marks))
 
-    colon : (named : List ℕ) → length named < length text → (o : Option (List ℕ)) → behind_colon named ≡ o
-        → through (after_residual marks) (option_and_then (λ r. behind_separator (behind_items (item_in marks Object) 0x7D (length text)) (behind_char 0x2C r) 0x7D r)
-            (option_and_then (behind_element_by (behind_contents (1023 - length marks))) o))
-        ≡ through (value_residual (Object ∷ marks)) o
-    colon named within None is = refl
-    colon named within (Some rest) is = value rest (let fewer = shorter_colon 0 named rest is in omega arith)
+  colon : (named : List ℕ) → length named < length text → (o : Option (List ℕ)) → behind_colon named ≡ o
+      → through (after_residual marks) (option_and_then (λ r. behind_separator (behind_items (item_in marks Object) 0x7D (length text)) (behind_char 0x2C r) 0x7D r)
+      (option_and_then (behind_element_by (behind_contents (1023 - length marks))) o))
+      ≡ through (value_residual (Object ∷ marks)) o
+  colon named within None is = refl
+  colon named within (Some rest) is = value rest (let fewer = shorter_colon 0 named rest is in omega arith)
 
-    name : (o : Option (List ℕ)) → behind_name text ≡ o
-        → through (after_residual marks) (option_and_then (λ r. behind_separator (behind_items (item_in marks Object) 0x7D (length text)) (behind_char 0x2C r) 0x7D r)
-            (option_and_then (behind_element_by (behind_contents (1023 - length marks))) (option_and_then behind_colon o)))
-        ≡ through (colon_residual (Object ∷ marks)) o
-    name None is = refl
-    name (Some named) is = colon named (shorter_name 0 text named is) (behind_colon named) refl
+  name : (o : Option (List ℕ)) → behind_name text ≡ o
+      → through (after_residual marks) (option_and_then (λ r. behind_separator (behind_items (item_in marks Object) 0x7D (length text)) (behind_char 0x2C r) 0x7D r)
+      (option_and_then (behind_element_by (behind_contents (1023 - length marks))) (option_and_then behind_colon o)))
+      ≡ through (colon_residual (Object ∷ marks)) o
+  name None is = refl
+  name (Some named) is = colon named (shorter_name 0 text named is) (behind_colon named) refl
 
 spaces_on : (c : ℕ) (text : List ℕ) → is_white_space c ≡ true → behind_spaces (c ∷ text) ≡ behind_spaces text
 spaces_on c text space = rw space refl
 
 -- white space in front of an item
-item_space : (marks : List Container) (kind : Container) (c : ℕ) (text : List ℕ) → is_white_space c ≡ true
+pub item_space : (marks : List Container) (kind : Container) (c : ℕ) (text : List ℕ) → is_white_space c ≡ true
     → item_residual (kind ∷ marks) (c ∷ text) ≡ item_residual (kind ∷ marks) text
 item_space marks Array c text space =
     item_of_array marks (c ∷ text)
@@ -129,11 +129,11 @@ hexes (a ∷ b ∷ []) = none_either (is_ascii_hexdigit a) _ (none_either (is_as
 hexes (a ∷ b ∷ c ∷ []) =
     none_either (is_ascii_hexdigit a) _ (none_either (is_ascii_hexdigit b) _ (none_either (is_ascii_hexdigit c) None refl))
 hexes (a ∷ b ∷ c ∷ d ∷ text) = all (is_ascii_hexdigit a) (is_ascii_hexdigit b) (is_ascii_hexdigit c) (is_ascii_hexdigit d) where
-    all : (v w x y : Bool) → cond v (cond w (cond x (cond y (Some text) None) None) None) None ≡ cond (((v && w) && x) && y) (Some text) None
-    all true true true y = refl
-    all true true false y = refl
-    all true false x y = refl
-    all false w x y = refl
+  all : (v w x y : Bool) → cond v (cond w (cond x (cond y (Some text) None) None) None) None ≡ cond (((v && w) && x) && y) (Some text) None
+  all true true true y = refl
+  all true true false y = refl
+  all true false x y = refl
+  all false w x y = refl
 
 -- what comes in a string
 pub text_ends : (r : Role) (marks : List Container) (text : List ℕ) → residual_of_text r marks (Some (0x22 ∷ text)) ≡ behind_text r marks text
@@ -143,13 +143,13 @@ text_ends r marks text = refl
 pub text_escape : (r : Role) (marks : List Container) (text : List ℕ) → residual_of_text r marks (Some (0x5C ∷ text)) ≡ residual_of_text r marks (behind_escape text)
 unfolding behind_chars
 text_escape r marks text = ap (through (behind_text r marks)) (go_on (behind_escape text) refl) where
-    go_on : (o : Option (List ℕ)) → behind_escape text ≡ o → option_and_then (behind_chars (suc (length text))) o ≡ option_and_then behind_string o
-    go_on None is = refl
-    go_on (Some rest) is =
-        let cut = escape-cut text rest is in
-        let fewer = char-longer cut.0 rest in
-        let long = ap length cut.2 in
-        chars_fuel (suc (length text)) (suc (length rest)) rest (omega arith) (omega arith)
+  go_on : (o : Option (List ℕ)) → behind_escape text ≡ o → option_and_then (behind_chars (suc (length text))) o ≡ option_and_then behind_string o
+  go_on None is = refl
+  go_on (Some rest) is =
+      let cut = escape-cut text rest is in
+      let fewer = char-longer cut.0 rest in
+      let long = ap length cut.2 in
+      chars_fuel (suc (length text)) (suc (length rest)) rest (omega arith) (omega arith)
 
 pub text_plain : (r : Role) (marks : List Container) (c : ℕ) (text : List ℕ) → (c == 0x22) ≡ false → (c == 0x5C) ≡ false → is_unescaped c ≡ true
     → residual_of_text r marks (Some (c ∷ text)) ≡ residual_of_text r marks (Some text)

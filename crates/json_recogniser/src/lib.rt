@@ -8,9 +8,11 @@
 //! here takes memory or fails.
 #![tactic(auto)]
 
-mod numbers;
+mod json_test;
 mod machine;
+mod numbers;
 mod pieces;
+mod runs;
 mod states;
 mod steps;
 mod strings;
@@ -18,4 +20,5 @@ mod strings;
 mod tests;
 mod values;
 
+pub use json_test::JsonTest;
 pub use values::json_slice;

@@ -1,12 +1,11 @@
 //! The machine: a state, and a mark for each array and object that is open.
-ghost use Rattle.std.specs.Prelude.{◌≡◌, ◌∷◌, [], ℕ, List};
+ghost use Rattle.std.specs.Prelude.{◌≡◌, ◌∷◌, ◌++◌, [], ℕ, List};
 ghost use Rattle.json_recogniser.specs.Residuals.{is_json, may_end};
-
-use arrayvec::ArrayVec;
 
 use crate::states::{Move, Part, State};
 use crate::steps::next;
 use crate::values::{Container, MOST_LEVELS};
+use arrayvec::ArrayVec;
 
 /// Reads characters, one after the other.
 #[derive(Drop)]
@@ -64,6 +63,15 @@ impl Machine {
         }
     }
 
+    /// Goes on by the characters.
+    pub fn take_all(&mut self, text: &[char])
+        ensures { (more : List ℕ) → comes self.new more ≡ comes self.old (text.now ++ more) }
+    {
+        'characters: for c in text {
+            self.take(*c);
+        }
+    }
+
     /// Whether the text may end here.
     pub fn is_whole(&self) -> bool
         ensures { result ≡ comes self.now [] }
@@ -85,7 +93,6 @@ fn may_end(state: State) -> bool
 {
     matches!(
         state,
-        State::After
-            | State::Number(Part::Zero | Part::Integer | Part::Fraction | Part::Exponent)
+        State::After | State::Number(Part::Zero | Part::Integer | Part::Fraction | Part::Exponent)
     )
 }

@@ -1,7 +1,9 @@
 //! Texts that are JSON, and texts that miss it by one rule.
+use crate::json_test::JsonTest;
 use crate::values::json_slice;
 use std::alloc::{AllocError, Global};
 use std::test::Fail;
+use text_stream::decode_slice;
 
 /// JSON texts.
 const TEXTS: [&str; 60] = [
@@ -205,4 +207,114 @@ fn arrays_beside_one_another_are_no_levels(rt: HostRuntime) -> Result<(), Fail> 
     text.push_str("]")?;
     assert!(rt; is_json(rt.alloc(), &text)?);
     Ok(())
+}
+
+/// Bytes that aren't all ASCII, and whether they are JSON.
+const BYTES: [(&[u8], bool); 14] = [
+    (b"\xEF\xBB\xBF1", true),
+    (b"\xEF\xBB\xBF\xEF\xBB\xBF1", false),
+    (b"\xEF\xBB1", false),
+    (b"\"\xEF\xBB\xBF\"", true),
+    (b"\"\xF0\x9F\x98\x80\"", true),
+    // a broken sequence in a string is U+FFFD
+    (b"\"\x80\"", true),
+    (b"[\"\xF0\x9F\x98\"]", true),
+    (b"{\"\xE2\x80\":\"\xFF\"}", true),
+    (b"\"\xF0\x9F", false),
+    (b"1\x80", false),
+    (b"[1,2]", true),
+    (b"{\"a\":1}", true),
+    (b"-0.5e+7", true),
+    (b"", false),
+];
+
+/// The answer of a test that is fed the bytes in pieces of so many.
+fn fed(bytes: &[u8], size: usize) -> bool {
+    let mut test = JsonTest::new();
+    if size > 0 {
+        for piece in bytes.chunks(size) {
+            test.feed(piece);
+        }
+    }
+    test.finish()
+}
+
+/// Whether the answer is the same in each cutting.
+fn in_each_cutting(bytes: &[u8], answer: bool) -> bool {
+    let whole = bytes.len().max(1);
+    [1, 2, 3, 7, whole]
+        .iter()
+        .all(|size| fed(bytes, *size) == answer)
+}
+
+#[test]
+fn texts_in_pieces_are_as_whole(rt: HostRuntime) -> Result<(), Fail> {
+    for text in TEXTS.iter().chain(&NEAR_MISSES) {
+        let answer = json_slice(&decode_slice(rt.alloc(), text.as_bytes())?);
+        assert!(rt; in_each_cutting(text.as_bytes(), answer), "{text:?}");
+    }
+    for (bytes, answer) in BYTES {
+        assert!(rt; in_each_cutting(bytes, answer), "{bytes:?}");
+    }
+    Ok(())
+}
+
+#[test]
+fn levels_are_counted_in_pieces(rt: HostRuntime) -> Result<(), Fail> {
+    for (opening, middle, closing) in [("[", "0", "]"), ("{\"a\":", "0", "}"), ("[ ", "", " ]")] {
+        let text = nested(rt.alloc(), 1024, opening, middle, closing)?;
+        assert!(rt;
+            in_each_cutting(text.as_bytes(), true),
+            "1,024 times {opening}"
+        );
+        let text = nested(rt.alloc(), 1025, opening, middle, closing)?;
+        assert!(rt;
+            in_each_cutting(text.as_bytes(), false),
+            "1,025 times {opening}"
+        );
+    }
+    Ok(())
+}
+
+#[test]
+fn a_test_is_dead_once_nothing_can_follow(rt: HostRuntime) {
+    let rows: [(&[u8], bool); 12] = [
+        (b"", false),
+        (b"[1,", false),
+        (b"{\"a\\u00", false),
+        (b"tru", false),
+        (b"1 ", false),
+        (b"01", true),
+        (b"truE", true),
+        (b"[1,]", true),
+        (b"{1", true),
+        (b"\"\x1f", true),
+        (b"\"\\u00g", true),
+        (b"[]]", true),
+    ];
+    for (bytes, dead) in rows {
+        let mut test = JsonTest::new();
+        test.feed(bytes);
+        assert_eq!(rt; test.is_dead(), dead, "{bytes:?}");
+        test.feed(b" ");
+        assert!(rt; !dead || test.is_dead(), "{bytes:?} for good");
+    }
+}
+
+#[test]
+fn runs_end_where_the_state_changes(rt: HostRuntime) {
+    let rows: [(&[u8], &[u8], usize); 7] = [
+        (b"\"", b"abc\"", 3),
+        (b"\"", b"a\\", 1),
+        (b"\"", b"a\xC3\xA9", 1),
+        (b"[", b" \t\r\n1", 4),
+        (b"1", b"23.5", 2),
+        (b"\"\xC3", b"abc", 0),
+        (b"", b"  ", 0),
+    ];
+    for (fed, piece, length) in rows {
+        let mut test = JsonTest::new();
+        test.feed(fed);
+        assert_eq!(rt; test.run_length(piece), length, "{fed:?}");
+    }
 }

@@ -1,10 +1,10 @@
 -- Bytes one after the other: when a character is settled, and what a byte order mark changes.
-use Rattle.std.proofs.Common.{◌≡◌, ◌≢◌, ℕ, zero, suc, ◌+◌, ◌<◌, ◌≤◌, Bool, true, false, not, cond, ◌&&◌, ◌==◌, nat_lt, nat_eq, List, [], ◌∷◌, ◌++◌, length, drop, slice_index, Option, None, Some, refl, sym, ap, ◌∙◌, append_assoc, append-nil, length-append, arith}
+use Rattle.std.proofs.Common.{◌≡◌, ◌≢◌, ℕ, suc, ◌+◌, ◌<◌, ◌≤◌, Bool, true, false, not, cond, ◌&&◌, ◌==◌, nat_lt, nat_eq, List, [], ◌∷◌, ◌++◌, length, drop, slice_index, Some, refl, sym, ap, ◌∙◌, append_assoc, length-append, arith}
 use Rattle.std.specs.List.{starts_with}
-use Rattle.std.proofs.lemmas.Bool.{and_parts, eqb-true, false_from_ne_true, cases_Bool}
+use Rattle.std.proofs.lemmas.Bool.{and_parts, eqb-true, false_from_ne_true}
 use Rattle.std.proofs.lemmas.Bool.Decides.{nat_tests}
 use Rattle.std.proofs.lemmas.List.{drop-append-le}
-use Rattle.bstr.specs.Utf8.{Decoded, decoded, decoded_by, bad, good, second, continues, code_of_2, code_of_3, code_of_4, or_replacement}
+use Rattle.bstr.specs.Utf8.{Decoded, decoded, decoded_by, bad, good, second, continues, code_of_2, code_of_3, or_replacement}
 use Rattle.text_stream.specs.Decoding.{further_bytes, characters_behind, characters_of, byte_order_mark}
 use Rattle.text_stream.specs.declared.decoder.Stage.{Stage}
 use Rattle.text_stream.specs.declared.decoder.Stage.TheVariants.{Front, Within, Finished}

@@ -1,5 +1,4 @@
-use Rattle.std.proofs.Common.{◌≡◌, ◌&&◌, reverse, sym, ap, ◌∙◌}
-use Rattle.json_recogniser.specs.Residuals.{may_end}
+use Rattle.std.proofs.Common.{◌&&◌, reverse, sym, ap, ◌∙◌}
 use Rattle.json_recogniser.proofs.EndLemmas.{ends_at, is_bare, bare_reverse}
 use Rattle.json_recogniser.proofs.machine.Machine.is_whole.Goals as goal
 

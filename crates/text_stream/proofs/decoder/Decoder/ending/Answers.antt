@@ -1,4 +1,4 @@
-use Rattle.std.proofs.Common.{◌≡◌, ◌≤◌, ◌++◌, [], length, sym, ap, ◌∙◌, append-nil, arith}
+use Rattle.std.proofs.Common.{◌++◌, [], sym, ap, ◌∙◌, append-nil}
 use Rattle.text_stream.specs.Decoding.{characters_of, characters_behind}
 use Rattle.text_stream.specs.DecoderStages.{most_pending}
 use Rattle.text_stream.specs.Decoder.{ahead_at}

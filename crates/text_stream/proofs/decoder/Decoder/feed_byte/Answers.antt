@@ -2,7 +2,7 @@ use Rattle.std.proofs.Common.{rules, ◌≡◌, ◌≤◌, ◌++◌, ◌∷◌, 
 use Rattle.std.specs.List.{starts_with}
 use denote.Enum.Bare.{same_true, sameb}
 use Rattle.text_stream.specs.contracts.decoder.Stage.{the_type}
-use Rattle.text_stream.specs.declared.decoder.Stage.TheVariants.{Front, Within}
+use Rattle.text_stream.specs.declared.decoder.Stage.TheVariants.{Front}
 use Rattle.text_stream.specs.Decoding.{characters_of, characters_behind, byte_order_mark}
 use Rattle.text_stream.specs.DecoderStages.{most_pending}
 use Rattle.text_stream.specs.Decoder.{ahead_at}

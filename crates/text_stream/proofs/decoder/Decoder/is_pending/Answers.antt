@@ -1,4 +1,3 @@
-use Rattle.std.proofs.Common.{◌≡◌, [], sym, ◌∙◌}
 use Rattle.text_stream.proofs.DecoderLemmas.{passes_ascii, no_items}
 use Rattle.text_stream.proofs.decoder.Decoder.is_pending.Goals as goal
 

@@ -1,0 +1,123 @@
+-- JSON tests: what is read, what is dead, and what is told at the end.
+use Rattle.std.proofs.Common.{◌≡◌, ℕ, suc, ◌<◌, Bool, true, false, List, [], ◌∷◌, ◌++◌, length, slice_index, get_or, take, drop, ◌-◌, ◌≤◌, take_all, Option, None, Some, option_map, refl, sym, ap, ◌∙◌, inl, inr, append_assoc, append-nil, arith}
+use Rattle.std.proofs.lemmas.Bool.{cases_Bool}
+use Rattle.text_stream.specs.Decoding.{characters_of}
+use Rattle.text_stream.specs.Decoder.{PassesAscii, ahead, HasRead as DecoderHasRead}
+use Rattle.json_recogniser.specs.declared.values.Container.{Container}
+use Rattle.json_recogniser.specs.declared.states.State.{State}
+use Rattle.json_recogniser.specs.declared.states.State.TheVariants as state
+use Rattle.json_recogniser.specs.declared.json_test.JsonTest.{JsonTest}
+use Rattle.json_recogniser.specs.Grammar.{IsJson}
+use Rattle.json_recogniser.specs.Reading.{behind_spaces, behind_value}
+use Rattle.json_recogniser.specs.Residuals.{residual, is_json, is_nothing, is_dead_state, through, after_residual}
+use Rattle.json_recogniser.specs.Machines.{comes}
+use Rattle.json_recogniser.specs.Runs.{run_test}
+use Rattle.json_recogniser.specs.JsonTest.{IsNever, is_dead, Reads, HasRead}
+use Rattle.json_recogniser.proofs.Soundness.{recognised}
+use Rattle.json_recogniser.proofs.Completeness.{complete}
+use Rattle.json_recogniser.proofs.RunLemmas.{stays, run_ascii}
+
+-- ---- the test of a whole text
+
+nothing_left : (text : List ℕ) → is_nothing text ≡ true → text ≡ []
+nothing_left [] is = refl
+nothing_left (c ∷ text) is = absurd (cc)
+
+pub json_to : (text : List ℕ) → is_json text ≡ true → IsJson text
+json_to text is = recognised text (read (behind_value 1024 (behind_spaces text)) is) where
+  read : (o : Option (List ℕ)) → through (after_residual []) o ≡ true → option_map behind_spaces o ≡ Some []
+  read None so = absurd (cc)
+  read (Some rest) so = ap Some (nothing_left (behind_spaces rest) so)
+
+pub json_from : (text : List ℕ) → IsJson text → is_json text ≡ true
+json_from text json = read (behind_value 1024 (behind_spaces text)) (complete text json) where
+  read : (o : Option (List ℕ)) → option_map behind_spaces o ≡ Some [] → through (after_residual []) o ≡ true
+  read None lie = absurd (cc)
+  read (Some rest) so = let none : behind_spaces rest ≡ [] = cc in ap is_nothing none
+
+-- ---- dead tests
+
+dead_state : (s : State) (marks : List Container) (text : List ℕ) → is_dead_state s ≡ true → residual s marks text ≡ false
+dead_state state.Dead marks text is = refl
+dead_state s marks text is = absurd (cc)
+
+pub never_more : (bytes more : List ℕ) → IsNever bytes → IsNever (bytes ++ more)
+never_more bytes more never rest = ap (λ t. is_json (characters_of t)) (append_assoc bytes more rest) ∙ never (more ++ rest)
+
+-- what is read by the parts is read
+pub has_read : (test : JsonTest) (bytes : List ℕ) → Reads test bytes → HasRead test bytes
+has_read test bytes reads = record {
+  dead = λ is more.
+      ap is_json (reads.decoder.gives more)
+      ∙ sym (reads.machine (ahead test.decoder more))
+      ∙ dead_state test.machine.state _ (ahead test.decoder more) is;
+  alive = λ _. reads;
+}
+
+pub dead_reads : (test : JsonTest) (bytes more : List ℕ) → is_dead test ≡ true → HasRead test bytes → HasRead test (bytes ++ more)
+dead_reads test bytes more is h = record {
+  dead = λ _. never_more bytes more (h.dead is);
+  alive = λ lives. absurd (cc);
+}
+
+pub dead_never : (test : JsonTest) (bytes more : List ℕ) → is_dead test ≡ true → HasRead test bytes → ¬ IsJson (characters_of (bytes ++ more))
+dead_never test bytes more is h json = let lie = h.dead is more in let so = json_from (characters_of (bytes ++ more)) json in absurd (cc)
+
+-- ---- the end
+
+pub told : (test : JsonTest) (bytes ending : List ℕ) (result : Bool) → result ≡ comes test.machine ending
+    → ((given : List ℕ) → DecoderHasRead test.decoder bytes given → given ++ ending ≡ characters_of bytes)
+    → HasRead test bytes → (result ≡ true → IsJson (characters_of bytes)) × (IsJson (characters_of bytes) → result ≡ true)
+told test bytes ending result is ends h =
+    elim (cases_Bool (is_dead test)) [
+      | inl dead ↦
+          let no_json : is_json (characters_of bytes) ≡ false = ap (λ t. is_json (characters_of t)) (sym (append-nil bytes)) ∙ h.dead dead [] in
+          let untrue : result ≡ false = is ∙ dead_state test.machine.state _ ending dead in
+          (λ so. absurd (cc), λ json. let so = json_from (characters_of bytes) json in absurd (cc))
+      | inr alive ↦
+          let reads = h.alive alive in
+          let same : result ≡ is_json (characters_of bytes) = is ∙ reads.machine ending ∙ ap is_json (ends reads.given reads.decoder) in
+          (λ so. json_to (characters_of bytes) (sym same ∙ so), λ json. same ∙ json_from (characters_of bytes) json)
+    ]
+
+-- ---- bytes
+
+pub byte_passed : (test : JsonTest) (bytes : List ℕ) (b : ℕ) → PassesAscii test.decoder → run_test test.machine.state b ≡ true
+    → HasRead test bytes → HasRead test (bytes ++ b ∷ [])
+byte_passed test bytes b passes is h = record {
+  dead = λ dead. never_more bytes (b ∷ []) (h.dead dead);
+  alive = λ lives.
+      let reads = h.alive lives in
+      record {
+        given = reads.given ++ b ∷ [];
+        decoder = passes bytes reads.given b (run_ascii test.machine.state b is) reads.decoder;
+        machine = λ text.
+            sym (stays test.machine.state _ b text is) ∙ reads.machine (b ∷ text)
+            ∙ ap is_json (sym (append_assoc reads.given (b ∷ []) text));
+      };
+}
+
+pub run_passed : (test : JsonTest) (bytes run : List ℕ) → PassesAscii test.decoder
+    → ((k : ℕ) → k < length run → run_test test.machine.state (slice_index run k) ≡ true)
+    → HasRead test bytes → HasRead test (bytes ++ run)
+run_passed test bytes [] passes each h = rw (append-nil bytes) h
+run_passed test bytes (b ∷ run) passes each h =
+    let one = byte_passed test bytes b passes (each 0 (omega arith)) h in
+    let more = run_passed test (bytes ++ b ∷ []) run passes (λ k below. each (suc k) (omega arith)) one in
+    rw (append_assoc bytes (b ∷ []) run) at more
+
+pub read_on : (old new : JsonTest) (bytes given : List ℕ) (b : ℕ)
+    → ((b' g : List ℕ) → DecoderHasRead old.decoder b' g → DecoderHasRead new.decoder (b' ++ b ∷ []) (g ++ given))
+    → ((text : List ℕ) → comes new.machine text ≡ comes old.machine (given ++ text))
+    → Reads old bytes → Reads new (bytes ++ b ∷ [])
+read_on old new bytes given b decodes goes reads = record {
+  given = reads.given ++ given;
+  decoder = decodes bytes reads.given reads.decoder;
+  machine = λ text. goes text ∙ reads.machine (given ++ text) ∙ ap is_json (sym (append_assoc reads.given given text));
+}
+
+-- a text as its first byte and the others, as a pattern gives them
+pub first_and_others : (text : List ℕ) → 1 ≤ length text → text ≡ get_or text 0 0 ∷ take (length text - 1) (drop 1 text)
+first_and_others [] some = absurd (omega arith)
+first_and_others (b ∷ text) some =
+    ap (λ t. b ∷ t) (sym (take_all (length (b ∷ text) - 1) text (omega arith)))
