@@ -5,7 +5,7 @@ use Rattle.json_recogniser.specs.declared.values.Container.{Container}
 use Rattle.json_recogniser.specs.declared.values.Container.TheVariants.{Array, Object}
 use Rattle.json_recogniser.specs.Grammar.{is_white_space, string_text}
 use Rattle.json_recogniser.specs.Reading.{behind_spaces, behind_char, behind_name, behind_colon, behind_string_char, behind_chars, behind_separator, behind_items, behind_item_by, behind_value_by, behind_contents}
-use Rattle.json_recogniser.proofs.Soundness.{one_char, char-cut, chars-cut, contents-cut, value-cut, element-cut, member-cut, name-cut, colon-cut, leading}
+use Rattle.json_recogniser.proofs.Soundness.{one_char, char-cut, contents-cut, value-cut, element-cut, member-cut, name-cut, colon-cut, leading}
 use Rattle.json_recogniser.proofs.Completeness.{char-longer, chars-longer, value-longer, element-longer, member-longer}
 
 -- ---- what is behind a piece is shorter
@@ -28,11 +28,6 @@ shorter_item levels Array text rest is =
 shorter_item levels Object text rest is =
     let cut = member-cut levels (behind_contents levels) (contents-cut levels) text rest is in
     omega (arith, member-longer cut.0 rest, ap length cut.3)
-
-shorter_string_chars : (n : ℕ) (text rest : List ℕ) → behind_chars n text ≡ Some rest → length rest < length text
-shorter_string_chars n text rest is =
-    let cut = chars-cut n text rest is in
-    omega (arith, chars-longer cut.0 rest, ap length cut.2)
 
 pub shorter_name : (levels : ℕ) (text rest : List ℕ) → behind_name text ≡ Some rest → length rest < length text
 shorter_name levels text rest is =
