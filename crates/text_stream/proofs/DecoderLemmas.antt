@@ -1,5 +1,5 @@
 -- Bytes one after the other: when a character is settled, and what a byte order mark changes.
-use Rattle.std.proofs.Common.{◌≡◌, ◌≢◌, ℕ, suc, ◌+◌, ◌<◌, ◌≤◌, Bool, true, false, not, cond, ◌&&◌, ◌==◌, nat_lt, nat_eq, List, [], ◌∷◌, ◌++◌, length, drop, slice_index, Some, refl, sym, ap, ◌∙◌, append_assoc, length-append, arith}
+use Rattle.std.proofs.Common.{◌≡◌, ◌≢◌, ℕ, suc, ◌+◌, ◌<◌, ◌≤◌, Bool, true, false, not, cond, ◌&&◌, ◌==◌, nat_lt, nat_eq, List, [], ◌∷◌, ◌++◌, length, drop, slice_index, Some, ◌⊎◌, inl, inr, refl, sym, ap, ◌∙◌, append_assoc, length-append, arith}
 use Rattle.std.specs.List.{starts_with}
 use Rattle.std.proofs.lemmas.Bool.{and_parts, eqb-true, false_from_ne_true}
 use Rattle.std.proofs.lemmas.Bool.Decides.{nat_tests}
@@ -9,7 +9,8 @@ use Rattle.text_stream.specs.Decoding.{further_bytes, characters_behind, charact
 use Rattle.text_stream.specs.declared.decoder.Stage.{Stage}
 use Rattle.text_stream.specs.declared.decoder.Stage.TheVariants.{Front, Within, Finished}
 use Rattle.text_stream.specs.declared.decoder.Decoder.{Decoder}
-use Rattle.text_stream.specs.Decoder.{HasRead, PassesAscii, ahead_at}
+use Rattle.text_stream.specs.Decoder.{HasRead, PassesAscii, GivesAllButThree, ahead_at}
+use Rattle.text_stream.specs.DecoderStages.{most_pending}
 use Rattle.text_stream.proofs.DecodingLemmas.{characters_behind-first}
 
 -- ---- what is settled by some bytes, whatever follows
@@ -237,3 +238,18 @@ pub at_end : (stage : Stage) (bytes : List ℕ) → stage ≢ Finished → (stag
 at_end Front bytes can few = few_no_mark bytes (few refl)
 at_end Within bytes can few = refl
 at_end Finished bytes can few = absurd (can refl)
+
+-- what is pending is at most three bytes
+pub all_but_three : (decoder : Decoder) (bytes given : List ℕ) → HasRead decoder bytes given → GivesAllButThree bytes given
+all_but_three decoder bytes given h = (decoder.pending.items, few decoder.stage decoder.few, stands decoder.stage h.can h.gives) where
+  few : (stage : Stage) → length decoder.pending.items ≤ most_pending stage → length decoder.pending.items ≤ 3
+  few Front is = omega arith
+  few Within is = is
+  few Finished is = omega arith
+
+  stands : (stage : Stage) → stage ≢ Finished → ((more : List ℕ) → characters_of (bytes ++ more) ≡ given ++ ahead_at stage (decoder.pending.items ++ more))
+      → ((more : List ℕ) → characters_of (bytes ++ more) ≡ given ++ characters_of (decoder.pending.items ++ more))
+      ⊎ ((more : List ℕ) → characters_of (bytes ++ more) ≡ given ++ characters_behind 0 (decoder.pending.items ++ more))
+  stands Front can gives = inl gives
+  stands Within can gives = inr gives
+  stands Finished can gives = absurd (can refl)

@@ -1,5 +1,5 @@
 -- Decoders: what one knows of the bytes that were read and of the characters that were given.
-use Rattle.std.specs.Prelude.{◌≡◌, ◌≢◌, ℕ, ◌<◌, List, [], ◌∷◌, ◌++◌}
+use Rattle.std.specs.Prelude.{◌≡◌, ◌≢◌, ◌⊎◌, ℕ, ◌<◌, ◌≤◌, List, [], ◌∷◌, ◌++◌, length}
 use Rattle.text_stream.specs.declared.decoder.Stage.{Stage}
 use Rattle.text_stream.specs.declared.decoder.Stage.TheVariants.{Front, Within, Finished}
 use Rattle.text_stream.specs.declared.decoder.Decoder.{Decoder}
@@ -28,3 +28,10 @@ pub record HasRead (decoder : Decoder) (bytes given : List ℕ) : Type 0 where
 abbrev pub PassesAscii : Decoder → Type 0
 PassesAscii decoder = (bytes given : List ℕ) (b : ℕ) → b < 128 → HasRead decoder bytes given
     → HasRead decoder (bytes ++ b ∷ []) (given ++ b ∷ [])
+
+-- at most three bytes are pending, at the front or past it: whatever follows, the characters of the whole are those given and
+-- those of these bytes and what follows
+abbrev pub GivesAllButThree : List ℕ → List ℕ → Type 0
+GivesAllButThree bytes given = (pending : List ℕ) × (length pending ≤ 3)
+    × (((more : List ℕ) → characters_of (bytes ++ more) ≡ given ++ characters_of (pending ++ more))
+    ⊎ ((more : List ℕ) → characters_of (bytes ++ more) ≡ given ++ characters_behind 0 (pending ++ more)))

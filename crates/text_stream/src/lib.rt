@@ -14,4 +14,4 @@ mod laws;
 pub use classes::{CharClass, class_of};
 pub use decoder::Decoder;
 pub use decoding::{NoMemory, TextRoom, decode_slice};
-pub use laws::{classes_are_sets, text_reads_as_written};
+pub use laws::{all_but_three_bytes_are_given, classes_are_sets, text_reads_as_written};
