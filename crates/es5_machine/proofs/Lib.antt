@@ -8,3 +8,5 @@ pub mod Fits
 pub mod Closing
 pub mod Slashes
 pub mod Verdicts
+pub mod ScriptLemmas
+pub mod ScriptTestLemmas

@@ -12,6 +12,8 @@
 mod classes;
 mod expressions;
 mod machine;
+mod script_tests;
+mod scripts;
 mod semicolons;
 mod statements;
 mod states;
@@ -19,3 +21,4 @@ mod states;
 mod tests;
 
 pub use machine::Machine;
+pub use script_tests::ScriptTest;

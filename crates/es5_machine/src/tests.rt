@@ -1,5 +1,5 @@
-//! Texts, lexed under the machine's goals, and what the machine says of them.
-use crate::Machine;
+//! Texts, lexed under the machine's goals, and what the machine says of them; bytes, and whether they are scripts.
+use crate::{Machine, ScriptTest};
 use es5_lexer::{next_token, rest_is_trivia};
 use std::alloc::{AllocError, Global};
 use std::test::Fail;
@@ -157,4 +157,74 @@ fn texts_have_their_verdicts(rt: HostRuntime) -> Result<(), Fail> {
         assert_eq!(rt; verdict_of(&text), *want, "row {row}");
     }
     Ok(())
+}
+
+/// Whether the bytes are a script, fed in parts of at most so many.
+fn is_script(bytes: &[u8], size: usize) -> bool {
+    let mut test = ScriptTest::new();
+    for part in bytes.chunks(size) {
+        test.feed(part);
+    }
+    test.finish()
+}
+
+#[test]
+fn scripts_are_told_in_pieces(rt: HostRuntime) -> Result<(), Fail> {
+    for (row, (pieces, want)) in ROWS.iter().enumerate() {
+        let mut bytes = Vec::new(rt.alloc());
+        for (times, piece) in *pieces {
+            for _ in 0..*times {
+                bytes.extend_from_slice(piece.as_bytes())?;
+            }
+        }
+        for size in [1, 100] {
+            assert_eq!(rt;
+                is_script(&bytes, size),
+                *want == Script,
+                "row {row} by {size}"
+            );
+        }
+    }
+    Ok(())
+}
+
+#[test]
+fn bytes_are_scripts_by_their_characters(rt: HostRuntime) {
+    let rows: [(&[u8], bool); 10] = [
+        (b"\xEF\xBB\xBFa=1", true),
+        (b"\xEF\xBB", false),
+        (b"a=\"\xFF\"", true),
+        (b"a=\xFF", false),
+        (b"a\xE2\x80\xA8b", true),
+        (b"a\xE2\x80", false),
+        (b"a//\xE2\x80", true),
+        (b"\"\xE2\x80\xA8\"", false),
+        (b"\xD0\xB0=\xD0\xB0/1", true),
+        (b"{\"a\":1}", false),
+    ];
+    for (bytes, want) in rows {
+        for size in [1, 100] {
+            assert_eq!(rt; is_script(bytes, size), want, "{bytes:?} by {size}");
+        }
+    }
+}
+
+#[test]
+fn a_test_is_dead_for_good(rt: HostRuntime) {
+    let rows: [(&[u8], bool); 7] = [
+        (b"", false),
+        (b"a b", false),
+        (b"a b ", true),
+        (b"a=\"\n", true),
+        (b"/*", false),
+        (b"@", true),
+        (b"[1,2]}\n", true),
+    ];
+    for (bytes, dead) in rows {
+        let mut test = ScriptTest::new();
+        test.feed(bytes);
+        assert_eq!(rt; test.is_dead(), dead, "{bytes:?}");
+        test.feed(b";");
+        assert!(rt; !dead || test.is_dead(), "{bytes:?} for good");
+    }
 }

@@ -1,0 +1,16 @@
+use Rattle.std.proofs.Common.{[], refl}
+use Rattle.es5_machine.proofs.ScriptLemmas.{none-read}
+use Rattle.es5_machine.proofs.scripts.ScriptReader.new.Goals as goal
+
+pub returns : goal.returns
+returns c = record {
+  alive = λ e. record {
+    marks = [];
+    given = [];
+    lexer = c.new.ensures;
+    machine = c.new-2.ensures;
+    spells = refl;
+    offered = none-read;
+  };
+  hopeless = λ e. absurd (cc e);
+}

@@ -1,0 +1,93 @@
+//! Which bytes are scripts, in whatever pieces they come.
+ghost use Rattle.std.specs.Prelude.{◌≡◌, ◌++◌, ◌∷◌, [], ℕ, List, true, IsTrue, ◌↔◌};
+ghost use Rattle.text_stream.specs.Decoder.{CanDecode};
+
+use crate::scripts::ScriptReader;
+use text_stream::Decoder;
+
+/// Reads the bytes of a body, and says whether they are a script (ECMA-262 5.1, section 14). It has a fixed size, takes
+/// no memory and has no error.
+#[derive(Drop)]
+pub struct ScriptTest {
+    decoder: Decoder,
+    reader: ScriptReader,
+    ghost decodes: { CanDecode decoder },
+}
+
+impl ScriptTest {
+    ghost use Rattle.es5_machine.specs.Scripts.{IsScript};
+    ghost use Rattle.es5_machine.specs.ScriptTests.{HasRead, IsHopeless};
+
+    /// A test that has read nothing.
+    pub fn new() -> ScriptTest
+        ensures { HasRead result [] }
+    {
+        ScriptTest {
+            decoder: Decoder::new(),
+            reader: ScriptReader::new(),
+        }
+    }
+
+    /// Reads the next piece. Once nothing can make a script of the bytes, it isn't looked at.
+    pub fn feed(&mut self, piece: &[u8])
+        ensures reads { (m : List ℕ) → HasRead self.old m → HasRead self.new (m ++ piece.now) }
+        ensures dead { IsHopeless self.old → IsHopeless self.new }
+    {
+        if !self.reader.is_dead() {
+            self.read(piece);
+        }
+    }
+
+    /// Whether nothing can make a script of the bytes, whatever follows them. Once it is so, it stays so.
+    pub fn is_dead(&self) -> bool
+        ensures state { IsTrue result ↔ IsHopeless self.now }
+        ensures hopeless { IsTrue result → (m w : List ℕ) → HasRead self.now m → IsScript (m ++ w) → ⊥ }
+    {
+        self.reader.is_dead()
+    }
+
+    /// Whether the bytes are a script. What the test has read then, nothing says.
+    pub fn finish(&mut self) -> bool
+        ensures { (m : List ℕ) → HasRead self.old m → (IsTrue result ↔ IsScript m) }
+    {
+        let last = self.decoder.ending();
+        self.reader.feed_all(last.as_slice());
+        self.reader.finish()
+    }
+}
+
+impl ScriptTest {
+    ghost use Rattle.es5_machine.specs.ScriptTests.{Reads, IsHopeless as IsLost};
+
+    /// Reads a piece, byte by byte.
+    fn read(&mut self, piece: &[u8])
+        ensures reads { (m : List ℕ) → Reads self.old m → Reads self.new (m ++ piece.now) }
+        ensures dead { IsLost self.old → IsLost self.new }
+    {
+        for b in piece {
+            self.read_byte(*b);
+        }
+    }
+
+    /// Reads a byte: most are characters of their own.
+    fn read_byte(&mut self, b: u8)
+        ensures reads { (m : List ℕ) → Reads self.old m → Reads self.new (m ++ b ∷ []) }
+        ensures dead { IsLost self.old → IsLost self.new }
+    {
+        if b < 128 && !self.decoder.is_pending() {
+            self.reader.feed_char(b as char);
+        } else {
+            self.decode(b);
+        }
+    }
+
+    /// Reads a byte through the decoder.
+    #[inline(never)]
+    fn decode(&mut self, b: u8)
+        ensures reads { (m : List ℕ) → Reads self.old m → Reads self.new (m ++ b ∷ []) }
+        ensures dead { IsLost self.old → IsLost self.new }
+    {
+        let characters = self.decoder.feed_byte(b);
+        self.reader.feed_all(characters.as_slice());
+    }
+}
