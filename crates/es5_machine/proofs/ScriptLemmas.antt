@@ -68,6 +68,26 @@ offered-on marks text given goal c asks suits offered read w end tokens spells l
         subst (λ (t : List Mark). Lexes t end tokens) (sym (append_assoc marks (mark goal c ∷ []) w))
         (asks other w end tokens here (suits tokens program))
 
+-- these characters, each under this goal
+abbrev pub marks_of : Goal → List ℕ → List Mark
+marks_of goal [] = []
+marks_of goal (c ∷ run) = mark goal c ∷ marks_of goal run
+
+pub chars-of : (goal : Goal) (run : List ℕ) → chars (marks_of goal run) ≡ run
+chars-of goal [] = refl
+chars-of goal (c ∷ run) = ap (λ t. c ∷ t) (chars-of goal run)
+
+-- the same after a run of characters whose goals don't count
+pub offered-run : (marks q : List Mark) (text run : List ℕ)
+    → ((p w : List Mark) (end : Goal) (tokens : List Lexeme) → chars p ≡ run → Lexes (marks ++ (p ++ w)) end tokens
+    → Lexes (marks ++ (q ++ w)) end tokens)
+    → Offered marks text → Offered (marks ++ q) (text ++ run)
+offered-run marks q text run asks offered read w end tokens spells lexes program =
+    let k = cut text run read spells in
+    let whole : read ++ w ≡ k.first ++ (k.others ++ w) = ap (λ t. t ++ w) k.is ∙ append_assoc k.first k.others w in
+    let here = offered k.first (k.others ++ w) end tokens k.spells (subst (λ (t : List Mark). Lexes t end tokens) whole lexes) program in
+    subst (λ (t : List Mark). Lexes t end tokens) (sym (append_assoc marks q w)) (asks k.others w end tokens k.spells_others here)
+
 -- a script that begins with the text has its tokens under these marks and further ones
 pub record Goes (marks : List Mark) : Type 0 where
   pub others : List Mark

@@ -1,5 +1,5 @@
 //! Which bytes are scripts, in whatever pieces they come.
-ghost use Rattle.std.specs.Prelude.{◌≡◌, ◌++◌, ◌∷◌, [], ℕ, List, true, IsTrue, ◌↔◌};
+ghost use Rattle.std.specs.Prelude.{◌≡◌, ◌≤◌, ◌++◌, ◌∷◌, [], ℕ, List, true, IsTrue, ◌↔◌, length, take};
 ghost use Rattle.text_stream.specs.Decoder.{CanDecode};
 
 use crate::scripts::ScriptReader;
@@ -33,8 +33,15 @@ impl ScriptTest {
         ensures reads { (m : List ℕ) → HasRead self.old m → HasRead self.new (m ++ piece.now) }
         ensures dead { IsHopeless self.old → IsHopeless self.new }
     {
-        if !self.reader.is_dead() {
-            self.read(piece);
+        let mut rest = piece;
+        'bytes: while !self.reader.is_dead() {
+            match rest.split_at(self.run_length(rest)).1 {
+                [] => return,
+                [b, others @ ..] => {
+                    self.read_byte(*b);
+                    rest = others;
+                }
+            }
         }
     }
 
@@ -59,13 +66,16 @@ impl ScriptTest {
 impl ScriptTest {
     ghost use Rattle.es5_machine.specs.ScriptTests.{Reads, IsHopeless as IsLost};
 
-    /// Reads a piece, byte by byte.
-    fn read(&mut self, piece: &[u8])
-        ensures reads { (m : List ℕ) → Reads self.old m → Reads self.new (m ++ piece.now) }
-        ensures dead { IsLost self.old → IsLost self.new }
+    /// How many of the next bytes leave the test as it is, as in a comment or a string; those after them may too.
+    #[inline]
+    fn run_length(&self, piece: &[u8]) -> usize
+        ensures within { result ≤ length piece.now }
+        ensures reads { (m : List ℕ) → Reads self.now m → Reads self.now (m ++ take result piece.now) }
     {
-        for b in piece {
-            self.read_byte(*b);
+        if self.decoder.is_pending() {
+            0
+        } else {
+            self.reader.run_length(piece)
         }
     }
 

@@ -1,5 +1,7 @@
 //! Which texts are scripts, character by character.
-ghost use Rattle.std.specs.Prelude.{◌≡◌, ◌++◌, ◌∷◌, [], ℕ, List, true, IsTrue, ◌↔◌};
+ghost use Rattle.std.specs.Prelude.{◌≡◌, ◌≤◌, ◌++◌, ◌∷◌, [], ℕ, List, true, IsTrue, ◌↔◌, length, take};
+ghost use Rattle.std.specs.List.{list_all};
+ghost use Rattle.std.specs.Char.{is_ascii};
 ghost use Rattle.es5_lexer.specs.declared.tokens.Lexeme.{Lexeme};
 ghost use Rattle.es5_machine.specs.Reading.{HasRead as MachineHasRead};
 
@@ -39,6 +41,15 @@ impl ScriptReader {
         ensures { result ≡ self.now.dead }
     {
         self.dead
+    }
+
+    /// How many of the next bytes are characters that leave the reader as it is.
+    pub(crate) fn run_length(&self, piece: &[u8]) -> usize
+        ensures within { result ≤ length piece.now }
+        ensures ascii { list_all is_ascii (take result piece.now) ≡ true }
+        ensures reads { (u : List ℕ) → ReaderHasRead self.now u → ReaderHasRead self.now (u ++ take result piece.now) }
+    {
+        self.lexer.run_length(piece)
     }
 
     /// Reads one character more.

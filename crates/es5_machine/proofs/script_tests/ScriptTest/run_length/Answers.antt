@@ -1,0 +1,12 @@
+use Rattle.std.proofs.Common.{◌++◌, take}
+use Rattle.es5_machine.proofs.ScriptTestLemmas.{passes}
+use Rattle.es5_machine.proofs.script_tests.ScriptTest.run_length.Goals as goal
+
+pub returns-else-is_pending-clause-reads : goal.returns-else-is_pending-clause-reads
+returns-else-is_pending-clause-reads c m reads =
+    let run = take c.run_length.result c.args.piece.now in
+    record {
+      text = reads.text ++ run;
+      decoder = passes c.args.self.now.decoder m reads.text run (c.is_pending.ensures c.if-is_pending.false) c.run_length.ensures.ascii reads.decoder;
+      reader = c.run_length.ensures.reads reads.text reads.reader;
+    }
