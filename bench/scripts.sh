@@ -1,6 +1,7 @@
 #!/bin/sh
-# How many megabytes a second scripts go through `Decoder` and `Lexer`, in pieces of 8,192 bytes and with the goals of a
-# plain rule, beside a loop in C that only decodes.
+# How many megabytes a second scripts go through `ScriptTest`, and through `Decoder` and `Lexer` with the goals of a plain
+# rule, in pieces of 8,192 bytes, beside a loop in C that only decodes and beside `node`, if it is there, which compiles the
+# same scripts lazily.
 #
 #     bench/scripts.sh [SCRIPT.js ..]
 #
@@ -244,8 +245,66 @@ invariant-loop-c l = CanDecode l.self.decoder
 PROOF
 }
 
-copy_crates text_stream es5_lexer
+# test_crate TEXT: the program that tests whether the text is a script.
+test_crate() {
+    echo 'test_speed: es5_machine' >>"$scratch/repo/crates.txt"
+    crate=$scratch/repo/crates/test_speed
+    mkdir -p "$crate/src"
+    cat >"$crate/src/main.rt" <<'PROGRAM'
+//! Tests whether a text is a script, and prints how fast.
+#![tactic(auto)]
+
+use std::fs;
+use std::io;
+use std::time::Instant;
+
+use es5_machine::ScriptTest;
+
+fn main(rt: HostRuntime) -> io::Result<()> {
+    let bytes = fs::read(&rt, "SCRIPT")?;
+    for _ in 0..5 {
+        let mut test = ScriptTest::new();
+        let start = Instant::now(&rt)?;
+        for piece in bytes.chunks(8192) {
+            test.feed(piece);
+        }
+        let dead = test.is_dead();
+        let script = test.finish();
+        let nanoseconds = start.elapsed(&rt)?.as_nanos().max(1);
+        let rate = (bytes.len() as u128).saturating_mul(1000) / nanoseconds;
+        println!(rt; "{rate:>6} MB/s: script: {script}, dead: {dead}")?;
+    }
+    Ok(())
+}
+PROGRAM
+    sed -i "s|\"SCRIPT\"|\"$1\"|" "$crate/src/main.rt"
+}
+
+# compile_only TEXT: `node`, if it is there, compiles the text lazily, five times.
+compile_only() {
+    command -v node >/dev/null || return 0
+    cat >"$scratch/compile.js" <<'PROGRAM'
+const fs = require("fs");
+const vm = require("vm");
+const text = fs.readFileSync(process.argv[2], "utf8");
+const rates = [];
+for (let k = 0; k < 5; k++) {
+    // Another first line each time, since node keeps what it compiled.
+    const source = "// " + k + "\n" + text;
+    const start = process.hrtime.bigint();
+    new vm.Script(source);
+    rates.push(Math.round(text.length * 1000 / Number(process.hrtime.bigint() - start)));
+}
+console.log("node compiles lazily: " + rates.join(", ") + " MB/s");
+PROGRAM
+    node "$scratch/compile.js" "$1"
+}
+
+copy_crates text_stream es5_lexer es5_trees es5_machine
 make_text "$scratch/text" '(jquery|underscore|sorttable|ace|mark|elasticlunr|clipboard).*[.]js' "$@"
 decode_only "$scratch/text"
+compile_only "$scratch/text"
+test_crate "$scratch/text"
+run_crate test_speed
 lexer_crate "$scratch/text"
 run_crate lexer_speed
