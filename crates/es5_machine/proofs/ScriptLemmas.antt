@@ -1,14 +1,13 @@
 -- A script is lexed under the goals that the machine offers, whatever the goals under which it has its tokens.
-use Rattle.std.proofs.Common.{◌≡◌, ℕ, Bool, true, false, List, [], ◌∷◌, ◌++◌, refl, sym, ap, subst, ◌∙◌, inl, append_assoc}
+use Rattle.std.proofs.Common.{◌≡◌, ℕ, List, [], ◌∷◌, ◌++◌, refl, sym, ap, subst, ◌∙◌, inl, append_assoc}
 use Rattle.std.proofs.lemmas.List.{append-nil}
-use Rattle.es5_lexer.specs.Texts.{Mark, mark, chars, Lexes, HasReading}
+use Rattle.es5_lexer.specs.Texts.{Mark, mark, chars, Lexes}
 use Rattle.es5_lexer.specs.Suits.{Suits}
-use Rattle.es5_lexer.specs.Begins.{Begins, IsFront}
+use Rattle.es5_lexer.specs.Begins.{Begins}
 use Rattle.es5_lexer.specs.Lexing.{HasRead as LexerHasRead}
 use Rattle.es5_lexer.specs.declared.tokens.Goal.{Goal}
 use Rattle.es5_lexer.specs.declared.tokens.Lexeme.{Lexeme}
 use Rattle.es5_lexer.specs.declared.lexer.Lexer.{Lexer}
-use Rattle.es5_lexer.proofs.TriviaLemmas.{chars-append}
 use Rattle.es5_lexer.proofs.EitherLemmas.{has_reading, reading_has}
 use Rattle.es5_lexer.proofs.LexerLemmas.{stays}
 use Rattle.es5_trees.specs.Programs.{IsProgram}

@@ -162,8 +162,10 @@ fn texts_have_their_verdicts(rt: HostRuntime) -> Result<(), Fail> {
 /// Whether the bytes are a script, fed in parts of at most so many.
 fn is_script(bytes: &[u8], size: usize) -> bool {
     let mut test = ScriptTest::new();
-    for part in bytes.chunks(size) {
-        test.feed(part);
+    if size > 0 {
+        for part in bytes.chunks(size) {
+            test.feed(part);
+        }
     }
     test.finish()
 }

@@ -1,4 +1,4 @@
-use Rattle.std.proofs.Common.{◌≡◌, [], refl}
+use Rattle.std.proofs.Common.{[], refl}
 use Rattle.es5_machine.proofs.script_tests.ScriptTest.new.Goals as goal
 
 pub returns : goal.returns

@@ -1,4 +1,4 @@
-use Rattle.std.proofs.Common.{◌≡◌, ℕ, true, [], List, ◌++◌, sym, ap, subst, ◌∙◌, IsTrue}
+use Rattle.std.proofs.Common.{ℕ, [], List, ◌++◌, sym, subst}
 use Rattle.std.proofs.lemmas.List.{append-nil}
 use Rattle.es5_lexer.specs.declared.tokens.Lexeme.{Lexeme}
 use Rattle.es5_trees.specs.Programs.{IsProgram}

@@ -1,4 +1,4 @@
-use Rattle.std.proofs.Common.{◌≡◌, ◌∷◌, [], ◌++◌, List, ap, subst, ◌∙◌}
+use Rattle.std.proofs.Common.{◌∷◌, [], ◌++◌, List, ap, subst, ◌∙◌}
 use Rattle.es5_lexer.specs.Texts.{mark}
 use Rattle.es5_lexer.specs.declared.tokens.Lexeme.{Lexeme}
 use Rattle.es5_lexer.proofs.TriviaLemmas.{chars-append}

@@ -1,4 +1,4 @@
-use Rattle.std.proofs.Common.{◌≡◌, ◌++◌, List, ℕ, take, ap, subst, sym, ◌∙◌, append_assoc}
+use Rattle.std.proofs.Common.{◌++◌, List, ℕ, take, ap, subst, ◌∙◌, append_assoc}
 use Rattle.es5_lexer.specs.declared.tokens.Goal.TheVariants.{Div}
 use Rattle.es5_lexer.specs.Texts.{chars}
 use Rattle.es5_lexer.proofs.TriviaLemmas.{chars-append}

@@ -1,5 +1,4 @@
-use Rattle.std.proofs.Common.{◌≡◌, ℕ, true, List, ◌++◌, sym, ◌∙◌}
-use Rattle.es5_machine.specs.Scripts.{IsScriptText}
+use Rattle.std.proofs.Common.{sym, ◌∙◌}
 use Rattle.es5_machine.proofs.ScriptLemmas.{lexer-hopeless, machine-hopeless}
 use Rattle.es5_machine.proofs.scripts.ScriptReader.settle.Goals as goal
 use Rattle.es5_machine.proofs.scripts.ScriptReader.settle.Goals.{then-is_dead, else-is_dead}
