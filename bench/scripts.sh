@@ -26,14 +26,14 @@ if not names:
     names = [path for place in places for path in sorted(place.rglob("*")) if re.fullmatch(pattern, path.name)]
 parts = []
 for name in names:
-    part = pathlib.Path(name).read_bytes() + b"\n"
+    part = pathlib.Path(name).read_bytes() + b"\n;\n"
     if part not in parts:
         parts.append(part)
 whole = b"".join(parts)
 if not whole:
     sys.exit("no text")
 print("%d texts, %d bytes, again and again up to 100 MB" % (len(parts), len(whole)))
-pathlib.Path(text).write_bytes((whole * (100_000_000 // len(whole) + 1))[:100_000_000])
+pathlib.Path(text).write_bytes((whole * (100_000_000 // len(whole))).ljust(100_000_000, b"\n"))
 PROGRAM
 }
 
