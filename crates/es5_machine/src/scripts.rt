@@ -7,7 +7,7 @@ ghost use Rattle.es5_machine.specs.Reading.{HasRead as MachineHasRead};
 
 use crate::machine::Machine;
 use arrayvec::ArrayVec;
-use es5_lexer::{Lexeme, Lexer};
+use es5_lexer::{Goal, Lexeme, Lexer};
 
 /// Reads a text a character at a time, and says whether it is a script.
 ///
@@ -17,6 +17,8 @@ use es5_lexer::{Lexeme, Lexer};
 pub(crate) struct ScriptReader {
     lexer: Lexer,
     machine: Machine,
+    // How the machine has a slash read that comes next.
+    goal: Goal,
     // Nothing can make a script of the text; it isn't read any more.
     dead: bool,
 }
@@ -29,9 +31,11 @@ impl ScriptReader {
     pub(crate) fn new() -> ScriptReader
         ensures { ReaderHasRead result [] }
     {
+        let machine = Machine::new();
         ScriptReader {
             lexer: Lexer::new(),
-            machine: Machine::new(),
+            goal: machine.goal(),
+            machine,
             dead: false,
         }
     }
@@ -80,25 +84,34 @@ impl ScriptReader {
         if self.dead {
             return false;
         }
-        let goal = self.machine.goal();
         let mut tokens = ArrayVec::new();
-        let whole = self.lexer.finish(goal, &mut tokens);
+        let whole = self.lexer.finish(self.goal, &mut tokens);
         step_all(&mut self.machine, tokens.as_slice());
         whole && self.machine.finish()
     }
 }
 
 impl ScriptReader {
-    ghost use Rattle.es5_machine.specs.ScriptReading.{Reads, ReaderHasRead as HasReadText};
+    ghost use Rattle.es5_machine.specs.ScriptReading.{Offers, Reads, ReaderHasRead as HasReadText};
 
     /// Reads one character, with the goal of the machine, and gives the machine the token that has ended.
     fn read(&mut self, c: char)
         ensures { (u : List ℕ) → Reads self.old u → Reads self.new (u ++ c ∷ []) }
     {
-        let goal = self.machine.goal();
         let mut tokens = ArrayVec::new();
-        self.lexer.feed_char(goal, c, &mut tokens);
-        step_all(&mut self.machine, tokens.as_slice());
+        self.lexer.feed_char(self.goal, c, &mut tokens);
+        self.take(tokens.as_slice());
+    }
+
+    /// Gives the machine these tokens.
+    fn take(&mut self, tokens: &[Lexeme])
+        ensures reads { (given : List Lexeme) → Offers self.old given → Offers self.new (given ++ tokens.now) }
+        ensures lexer { self.new.lexer ≡ self.old.lexer }
+    {
+        if !tokens.is_empty() {
+            step_all(&mut self.machine, tokens);
+            self.goal = self.machine.goal();
+        }
     }
 
     /// Sees whether nothing can make a script of what was read.

@@ -18,12 +18,12 @@ returns-then-whole c u reads =
     let r = reads.alive c.if-self.false in
     let given = r.given ++ c.finish-whole.new.out.items in
     let machine : HasRead c.step_all.new.machine given =
-    subst (λ (t : List Lexeme). HasRead c.step_all.new.machine (r.given ++ t)) c.as_slice.ensures.value (c.step_all.ensures r.given r.machine) in (
-      λ accepts. read-text r.marks u c.goal-goal.result given r.spells
+    subst (λ (t : List Lexeme). HasRead c.step_all.new.machine (r.given ++ t)) c.as_slice.ensures.value (c.step_all.ensures r.given r.offers.machine) in (
+      λ accepts. read-text r.marks u c.args.self.now.goal given r.spells
           (c.finish-whole.ensures.gives r.marks r.given r.lexer c.if-whole.true) ((c.finish.ensures given machine).0 accepts),
       λ script.
-          let lexes = ended r.marks u r.given c.goal-goal.result r.offered (c.finish-whole.ensures.asks r.marks r.given r.lexer)
-          (λ tokens program. c.goal-goal.ensures.suits r.given tokens r.machine program) script in
+          let lexes = ended r.marks u r.given c.args.self.now.goal r.offered (c.finish-whole.ensures.asks r.marks r.given r.lexer)
+          r.offers.suits script in
           let (whole, is) = c.finish-whole.ensures.exact r.marks r.given script.tokens r.lexer lexes in
           (c.finish.ensures given machine).1 (subst (λ (t : List Lexeme). IsProgram t) is script.program),
     )
@@ -33,6 +33,6 @@ returns-else-whole c u reads =
     let r = reads.alive c.if-self.false in (
       λ e. absurd (cc (e, c.if-whole.false)),
       λ script. (c.finish-whole.ensures.exact r.marks r.given script.tokens r.lexer
-          (ended r.marks u r.given c.goal-goal.result r.offered (c.finish-whole.ensures.asks r.marks r.given r.lexer)
-          (λ tokens program. c.goal-goal.ensures.suits r.given tokens r.machine program) script)).0,
+          (ended r.marks u r.given c.args.self.now.goal r.offered (c.finish-whole.ensures.asks r.marks r.given r.lexer)
+          r.offers.suits script)).0,
     )

@@ -8,7 +8,10 @@ returns c = record {
     marks = [];
     given = [];
     lexer = c.new.ensures;
-    machine = c.new-2.ensures;
+    offers = record {
+      machine = c.new-machine.ensures;
+      suits = λ tokens program. c.goal.ensures.suits [] tokens c.new-machine.ensures program;
+    };
     spells = refl;
     offered = none-read;
   };

@@ -17,7 +17,7 @@ returns-clause-reads c u h =
             marks = r.marks ++ q;
             given = r.given;
             lexer = c.run_length.ensures.reads r.marks r.given r.lexer q (chars-of Div run);
-            machine = r.machine;
+            offers = record { machine = r.offers.machine; suits = r.offers.suits };
             spells = chars-append r.marks q ∙ ap (λ t. t ++ chars q) r.spells ∙ ap (λ t. u ++ t) (chars-of Div run);
             offered = offered-run r.marks q u run
                 (λ p w end tokens is. c.run_length.ensures.asks r.marks r.given r.lexer p q w is (chars-of Div run) end tokens) r.offered;
