@@ -5,3 +5,4 @@ pub mod CommentLemmas
 pub mod TagLemmas
 pub mod HtmlLemmas
 pub mod RowLemmas
+pub mod ValueLemmas

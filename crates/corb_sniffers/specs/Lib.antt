@@ -5,3 +5,4 @@ pub mod Xml
 pub mod Json
 pub mod JsonReading
 pub mod Breakers
+pub mod Values

@@ -8,6 +8,7 @@
 mod breakers;
 mod html;
 mod json;
+mod laws;
 mod spaces;
 #[cfg(test)]
 mod tests;
@@ -16,4 +17,5 @@ mod xml;
 pub use breakers::has_breaker;
 pub use html::sniffs_html;
 pub use json::sniffs_json;
+pub use laws::sniffers_are_decided;
 pub use xml::sniffs_xml;
