@@ -44,14 +44,14 @@ at_end m end tokens h = subst (λ (w : List Mark). Lexes w end tokens) (sym (app
 
 -- the residual doesn't ask for what isn't a state's own
 
-own_from : (s : State) (read : List ℕ) (f : Bool) (w : List Mark) (end : Goal) (tokens : List Lexeme) → From s read f w end tokens → From s (own s read) f w end tokens
+pub own_from : (s : State) (read : List ℕ) (f : Bool) (w : List Mark) (end : Goal) (tokens : List Lexeme) → From s read f w end tokens → From s (own s read) f w end tokens
 own_from Start read f w end tokens h = h
 own_from Slash read f w end tokens h = h
 own_from LineComment read f w end tokens h = h
 own_from (BlockComment star) read f w end tokens h = h
 own_from (Token p) read f w end tokens h = h
 
-from_own : (s : State) (read : List ℕ) (f : Bool) (w : List Mark) (end : Goal) (tokens : List Lexeme) → From s (own s read) f w end tokens → From s read f w end tokens
+pub from_own : (s : State) (read : List ℕ) (f : Bool) (w : List Mark) (end : Goal) (tokens : List Lexeme) → From s (own s read) f w end tokens → From s read f w end tokens
 from_own Start read f w end tokens h = h
 from_own Slash read f w end tokens h = h
 from_own LineComment read f w end tokens h = h
@@ -255,7 +255,7 @@ same_slash : (g h : Goal) → is_div g ≡ is_div h → behind_slash g ≡ behin
 same_slash g h e = ap (λ (b : Bool). if b then AtMark TheSlash else Pattern BodyStart) e
 
 -- the goal suits the first of the tokens
-abbrev Fitting : Goal → List Lexeme → Type 0
+abbrev pub Fitting : Goal → List Lexeme → Type 0
 Fitting goal tokens = (x : Lexeme) (others : List Lexeme) → tokens ≡ x ∷ others → suits x.token goal ≡ true
 
 slash_change : (f : Bool) (other goal : Goal) (c : ℕ) (w : List Mark) (end : Goal) (tokens : List Lexeme) → Fitting goal tokens → (g : Goal) × LexesFrom f (mark g 47 ∷ mark other c ∷ w) end tokens → (g : Goal) × LexesFrom f (mark g 47 ∷ mark goal c ∷ w) end tokens
@@ -276,7 +276,7 @@ slash_change f other goal c w end tokens fits (g, l) = (g, by_first (opened f g 
         (subst (λ (p : Place). TokenFrom p (47 ∷ []) f (mark goal c ∷ w) end tokens) (sym (first_slash goal ∙ same_slash goal other half))
         (token_change (behind_slash other) (47 ∷ []) f other goal c w end tokens at))
 
-change : (s : State) (read : List ℕ) (f : Bool) (other goal : Goal) (c : ℕ) (w : List Mark) (end : Goal) (tokens : List Lexeme) → Fitting goal tokens → From s read f (mark other c ∷ w) end tokens → From s read f (mark goal c ∷ w) end tokens
+pub change : (s : State) (read : List ℕ) (f : Bool) (other goal : Goal) (c : ℕ) (w : List Mark) (end : Goal) (tokens : List Lexeme) → Fitting goal tokens → From s read f (mark other c ∷ w) end tokens → From s read f (mark goal c ∷ w) end tokens
 change Start read f other goal c w end tokens fits h = reread f other goal c w end tokens h
 change Slash read f other goal c w end tokens fits h = slash_change f other goal c w end tokens fits h
 change LineComment read f other goal c w end tokens fits h = line_change f other goal c w end tokens h
@@ -330,7 +330,7 @@ slash_end_change f other goal tokens fits (g, l) = (g, by_first (opened f g 47 [
         (subst (λ (p : Place). TokenFrom p (47 ∷ []) f [] goal tokens) (sym (first_slash goal ∙ same_slash goal other half))
         (token_end_change (behind_slash other) (47 ∷ []) f other goal tokens at))
 
-change_end : (s : State) (read : List ℕ) (f : Bool) (other goal : Goal) (tokens : List Lexeme) → Fitting goal tokens → From s read f [] other tokens → From s read f [] goal tokens
+pub change_end : (s : State) (read : List ℕ) (f : Bool) (other goal : Goal) (tokens : List Lexeme) → Fitting goal tokens → From s read f [] other tokens → From s read f [] goal tokens
 change_end Start read f other goal tokens fits h = end_change f other goal tokens h
 change_end Slash read f other goal tokens fits h = slash_end_change f other goal tokens fits h
 change_end LineComment read f other goal tokens fits h = record {

@@ -20,3 +20,4 @@ pub mod LexerLemmas
 pub mod EscapeSteps
 pub mod AliveLemmas
 pub mod RunLemmas
+pub mod DecidedLemmas

@@ -10,3 +10,4 @@ pub mod Slashes
 pub mod Verdicts
 pub mod ScriptLemmas
 pub mod ScriptTestLemmas
+pub mod Decided

@@ -8,11 +8,11 @@ use Rattle.text_stream.specs.Decoding.{characters_of}
 use Rattle.text_stream.specs.Decoder.{HasRead as DecoderHasRead, PassesAscii, ahead}
 use Rattle.es5_machine.specs.Scripts.{IsScript, IsScriptText}
 use Rattle.text_stream.specs.declared.decoder.Decoder.{Decoder}
-use Rattle.es5_machine.specs.ScriptTests.{HasRead, Reads, IsHopeless}
+use Rattle.es5_machine.specs.ScriptTests.{HasRead, Reads, is_dead}
 use Rattle.es5_machine.specs.declared.script_tests.ScriptTest.{ScriptTest}
 
 -- no script begins with them: their characters go on those of the first of them
-pub lost : (test : ScriptTest) (bytes more : List ℕ) → HasRead test bytes → IsHopeless test → IsScript (bytes ++ more) → ⊥
+pub lost : (test : ScriptTest) (bytes more : List ℕ) → HasRead test bytes → is_dead test ≡ true → IsScript (bytes ++ more) → ⊥
 lost test bytes more h dead script =
     let after = h.others ++ more in
     let is : characters_of (bytes ++ more) ≡ h.reads.text ++ ahead test.decoder after =
@@ -44,7 +44,7 @@ alive_reads test bytes alive h =
     subst (λ (t : List ℕ). Reads test t) (sym (h.is ∙ ap (λ t. h.first ++ t) (h.all alive) ∙ append-nil h.first)) h.reads
 
 -- once hopeless, a test reads no further
-pub dead_reads : (test : ScriptTest) (bytes more : List ℕ) → IsHopeless test → HasRead test bytes → HasRead test (bytes ++ more)
+pub dead_reads : (test : ScriptTest) (bytes more : List ℕ) → is_dead test ≡ true → HasRead test bytes → HasRead test (bytes ++ more)
 dead_reads test bytes more dead h = record {
   first = h.first;
   others = h.others ++ more;

@@ -1,12 +1,12 @@
 -- What a test of scripts has read of some bytes.
-use Rattle.std.specs.Prelude.{◌≡◌, ℕ, true, false, List, [], ◌++◌}
+use Rattle.std.specs.Prelude.{◌≡◌, ℕ, Bool, false, List, [], ◌++◌}
 use Rattle.text_stream.specs.Decoder.{HasRead as DecoderHasRead}
 use Rattle.es5_machine.specs.ScriptReading.{ReaderHasRead}
 use Rattle.es5_machine.specs.declared.script_tests.ScriptTest.{ScriptTest}
 
--- nothing can make a script of what it has read
-abbrev pub IsHopeless : ScriptTest → Type 0
-IsHopeless test = test.reader.dead ≡ true
+-- it has seen that nothing can make a script of what it has read
+abbrev pub is_dead : ScriptTest → Bool
+is_dead test = test.reader.dead
 
 -- the decoder has read the bytes, and the reader their characters
 pub record Reads (test : ScriptTest) (bytes : List ℕ) : Type 0 where
@@ -14,7 +14,7 @@ pub record Reads (test : ScriptTest) (bytes : List ℕ) : Type 0 where
   pub decoder : DecoderHasRead test.decoder bytes text
   pub reader : ReaderHasRead test.reader text
 
--- it has read the first of the bytes, and all of them unless it is hopeless
+-- it has read the first of the bytes, and all of them unless it is dead
 pub record HasRead (test : ScriptTest) (bytes : List ℕ) : Type 0 where
   pub first : List ℕ
   pub others : List ℕ

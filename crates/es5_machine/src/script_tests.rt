@@ -16,7 +16,7 @@ pub struct ScriptTest {
 
 impl ScriptTest {
     ghost use Rattle.es5_machine.specs.Scripts.{IsScript};
-    ghost use Rattle.es5_machine.specs.ScriptTests.{HasRead, IsHopeless};
+    ghost use Rattle.es5_machine.specs.ScriptTests.{HasRead, is_dead};
 
     /// A test that has read nothing.
     pub fn new() -> ScriptTest
@@ -31,7 +31,7 @@ impl ScriptTest {
     /// Reads the next piece. Once nothing can make a script of the bytes, it isn't looked at.
     pub fn feed(&mut self, piece: &[u8])
         ensures reads { (m : List ℕ) → HasRead self.old m → HasRead self.new (m ++ piece.now) }
-        ensures dead { IsHopeless self.old → IsHopeless self.new }
+        ensures dead { is_dead self.old ≡ true → is_dead self.new ≡ true }
     {
         let mut rest = piece;
         'bytes: while !self.reader.is_dead() {
@@ -47,7 +47,7 @@ impl ScriptTest {
 
     /// Whether nothing can make a script of the bytes, whatever follows them. Once it is so, it stays so.
     pub fn is_dead(&self) -> bool
-        ensures state { IsTrue result ↔ IsHopeless self.now }
+        ensures state { result ≡ is_dead self.now }
         ensures hopeless { IsTrue result → (m w : List ℕ) → HasRead self.now m → IsScript (m ++ w) → ⊥ }
     {
         self.reader.is_dead()
@@ -64,7 +64,7 @@ impl ScriptTest {
 }
 
 impl ScriptTest {
-    ghost use Rattle.es5_machine.specs.ScriptTests.{Reads, IsHopeless as IsLost};
+    ghost use Rattle.es5_machine.specs.ScriptTests.{Reads, is_dead as is_lost};
 
     /// How many of the next bytes leave the test as it is, as in a comment or a string; those after them may too.
     #[inline]
@@ -82,7 +82,7 @@ impl ScriptTest {
     /// Reads a byte: most are characters of their own.
     fn read_byte(&mut self, b: u8)
         ensures reads { (m : List ℕ) → Reads self.old m → Reads self.new (m ++ b ∷ []) }
-        ensures dead { IsLost self.old → IsLost self.new }
+        ensures dead { is_lost self.old ≡ true → is_lost self.new ≡ true }
     {
         if b < 128 && !self.decoder.is_pending() {
             self.reader.feed_char(b as char);
@@ -95,7 +95,7 @@ impl ScriptTest {
     #[inline(never)]
     fn decode(&mut self, b: u8)
         ensures reads { (m : List ℕ) → Reads self.old m → Reads self.new (m ++ b ∷ []) }
-        ensures dead { IsLost self.old → IsLost self.new }
+        ensures dead { is_lost self.old ≡ true → is_lost self.new ≡ true }
     {
         let characters = self.decoder.feed_byte(b);
         self.reader.feed_all(characters.as_slice());
