@@ -7,4 +7,4 @@ mod FuelLemmas
 mod ResidualLemmas
 mod EndLemmas
 mod RunLemmas
-mod JsonTestLemmas
+pub mod JsonTestLemmas

@@ -3,3 +3,5 @@ pub mod TableLemmas
 pub mod SettledLemmas
 pub mod EssenceLemmas
 pub mod ReadLemmas
+pub mod TextLemmas
+pub mod HopelessLemmas

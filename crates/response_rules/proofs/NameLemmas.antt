@@ -1,11 +1,11 @@
 -- How long the name of a rule is.
 use Rattle.std.proofs.Common.{◌≤◌, length, lit≤}
-use Rattle.response_rules.specs.Rules.{name_of}
+use Rattle.response_rules.specs.Rules.{name_of, row_of}
 use Rattle.response_rules.specs.declared.rules.Rule.{Rule}
 use Rattle.response_rules.specs.declared.rules.Rule.TheVariants as rule
 
 pub name-short : (r : Rule) → length (name_of r) ≤ 19
-unfolding name_of
+unfolding row_of
 name-short rule.NotOpaque = lit≤ tt
 name-short rule.Safelisted = lit≤ tt
 name-short rule.NeverSniffed = lit≤ tt
@@ -27,3 +27,15 @@ name-short rule.BodyLimit = lit≤ tt
 name-short rule.NotScript = lit≤ tt
 name-short rule.Json = lit≤ tt
 name-short rule.Script = lit≤ tt
+name-short rule.CorbSafelisted = lit≤ tt
+name-short rule.CorbNeverSniffed = lit≤ tt
+name-short rule.CorbPartial = lit≤ tt
+name-short rule.CorbNosniff = lit≤ tt
+name-short rule.CorbCoded = lit≤ tt
+name-short rule.CorbBreaker = lit≤ tt
+name-short rule.CorbHtml = lit≤ tt
+name-short rule.CorbXml = lit≤ tt
+name-short rule.CorbJson = lit≤ tt
+name-short rule.CorbUnprotected = lit≤ tt
+name-short rule.CorbText = lit≤ tt
+name-short rule.CorbUnconfirmed = lit≤ tt

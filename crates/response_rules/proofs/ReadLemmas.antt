@@ -1,20 +1,35 @@
 -- What a decider keeps of a body.
-use Rattle.std.proofs.Common.{◌≡◌, ℕ, ◌+◌, ◌-◌, ◌==◌, Bool, true, false, not, ◌||◌, ◌&&◌, nat_lt, nat_le, suc, zero, List, [], ◌∷◌, ◌++◌, length, take, Option, Some, None, is_some, is_none, refl, sym, ap, ◌∙◌, arith, length-append}
+use Rattle.std.proofs.Common.{◌≡◌, ℕ, ◌+◌, ◌-◌, ◌==◌, Bool, true, false, not, ◌||◌, ◌&&◌, nat_lt, nat_le, suc, zero, min, List, [], ◌∷◌, ◌++◌, length, take, Option, Some, None, is_some, is_none, if◌then◌else◌, refl, sym, ap, subst, ◌∙◌, arith, length-append}
 use Rattle.std.specs.Option.{option_or}
 use Rattle.std.proofs.Math.Seq.{take-append-add}
-use Rattle.std.proofs.lemmas.List.{length-take}
+use Rattle.std.proofs.lemmas.List.{length-take, take_all}
 use Rattle.std.proofs.lemmas.Bool.Decides.{nat_tests}
 use Rattle.response_rules.specs.declared.rules.Rule.{Rule}
+use Rattle.response_rules.specs.declared.text.TextTest.{TextTest}
+use Rattle.response_rules.specs.declared.deciding.Count.{Count}
+use Rattle.response_rules.specs.declared.deciding.Decider.{Decider}
 use Rattle.response_rules.specs.Heads.{Head}
-use Rattle.response_rules.specs.Tables.{window_size, window_of, window_rule_of}
+use Rattle.response_rules.specs.Reads.{HasCounted, Stands, TextHasRead, text_of}
+use Rattle.response_rules.specs.Tables.{window_size, window_of, early_rule}
 use Rattle.response_rules.specs.Settled.{is_full, is_in_text, rule_in_window, settled_rule}
-use Rattle.response_rules.proofs.TableLemmas.{window_rule-halves}
-use Rattle.response_rules.proofs.SettledLemmas.{settled-short, settled-whole, settled-full}
+use Rattle.response_rules.proofs.TableLemmas.{early-halves}
+use Rattle.response_rules.proofs.SettledLemmas.{full_longer, window_longer, settled-short, settled-whole, settled-full}
+use Rattle.response_rules.proofs.HopelessLemmas.{early-longer, text-longer}
 
 -- as much of a text as there is room for
 pub filled : (xs ys : List ℕ) (room n : ℕ) → room + length xs ≡ n → xs ++ take room ys ≡ take n (xs ++ ys)
 filled xs ys room n fits =
     sym (take-append-add xs ys room) ∙ ap (λ k. take k (xs ++ ys)) (omega (arith, fits))
+
+-- as much as there is of it
+pub take_least : (n room : ℕ) (ys : List ℕ) → n ≡ min room (length ys) → take n ys ≡ take room ys
+take_least n room ys is = ap (λ k. take k ys) is ∙ by (nat_le room (length ys)) refl
+  where
+    by : (b : Bool) → nat_le room (length ys) ≡ b → take (min room (length ys)) ys ≡ take room ys
+    by true fits = ap (λ k. take k ys) (grind (arith, nat_tests, fits))
+    by false over =
+        let whole : min room (length ys) ≡ length ys = grind (arith, nat_tests, over) in
+        ap (λ k. take k ys) whole ∙ take_all (length ys) ys (omega arith) ∙ sym (take_all room ys (grind (arith, nat_tests, over)))
 
 take_on : (n : ℕ) (m p : List ℕ) → take n (take n m ++ p) ≡ take n (m ++ p)
 take_on zero m p = refl
@@ -42,50 +57,27 @@ pub empty-short : is_full [] ≡ false
 unfolding window_size
 empty-short = refl
 
--- the count of bytes
-over_sum : (limit m p : ℕ) → (nat_lt limit m || nat_lt (limit - m) p) ≡ nat_lt limit (m + p)
-over_sum limit m p = grind (arith, nat_tests)
-
-pub over-on : (limit : ℕ) (m p : List ℕ) → (nat_lt limit (length m) || nat_lt (limit - length m) (length p)) ≡ nat_lt limit (length (m ++ p))
-over-on limit m p = over_sum limit (length m) (length p) ∙ ap (nat_lt limit) (sym (length-append m p))
-
-pub left-on : (limit : ℕ) (m p : List ℕ) → limit - length m - length p ≡ limit - length (m ++ p)
-left-on limit m p = omega (arith, length-append m p)
-
 -- the rule that is settled, read on: the window was full, isn't full yet, or is full now
-settled_on-full : (h : Head) (m p : List ℕ) (settled : Option Rule) → settled ≡ settled_rule h m → is_full m ≡ true
+pub settled_on-full : (h : Head) (m p : List ℕ) (settled : Option Rule) → settled ≡ settled_rule h m → is_full m ≡ true
     → settled ≡ settled_rule h (m ++ p)
 settled_on-full h m p settled is full = is ∙ sym (settled-full h m p full)
 
-settled_on-short : (h : Head) (m p : List ℕ) (settled : Option Rule) → settled ≡ settled_rule h m
+pub settled_on-short : (h : Head) (m p : List ℕ) (settled : Option Rule) → settled ≡ settled_rule h m
     → is_full m ≡ false → is_full (m ++ p) ≡ false → settled ≡ settled_rule h (m ++ p)
 settled_on-short h m p settled is short short' = is ∙ (settled-short h m short ∙ sym (settled-short h (m ++ p) short'))
 
-settled_on-filled : (h : Head) (m p : List ℕ) (settled : Option Rule) → settled ≡ settled_rule h m
+pub settled_on-filled : (h : Head) (m p : List ℕ) (settled : Option Rule) → settled ≡ settled_rule h m
     → is_full m ≡ false → is_full (m ++ p) ≡ true
     → option_or settled (rule_in_window h (window_of (m ++ p))) ≡ settled_rule h (m ++ p)
 settled_on-filled h m p settled is short full =
     ap (λ o. option_or o (rule_in_window h (window_of (m ++ p)))) (is ∙ settled-short h m short)
-    ∙ (sym (window_rule-halves h (m ++ p)) ∙ sym (settled-whole h (m ++ p) full))
-
-pub settled_on-now : (h : Head) (m p : List ℕ) (settled : Option Rule) (was now : Bool) → settled ≡ settled_rule h m
-    → was ≡ is_full m → now ≡ is_full (m ++ p) → (not was && now) ≡ true
-    → option_or settled (rule_in_window h (window_of (m ++ p))) ≡ settled_rule h (m ++ p)
-settled_on-now h m p settled false true is old full t = settled_on-filled h m p settled is (sym old) (sym full)
-settled_on-now h m p settled false false is old full t = grind (arith, t)
-settled_on-now h m p settled true now is old full t = grind (arith, t)
-
-pub settled_on-still : (h : Head) (m p : List ℕ) (settled : Option Rule) (was now : Bool) → settled ≡ settled_rule h m
-    → was ≡ is_full m → now ≡ is_full (m ++ p) → (not was && now) ≡ false → settled ≡ settled_rule h (m ++ p)
-settled_on-still h m p settled false true is old full t = grind (arith, t)
-settled_on-still h m p settled false false is old full t = settled_on-short h m p settled is (sym old) (sym full)
-settled_on-still h m p settled true now is old full t = settled_on-full h m p settled is (sym old)
+    ∙ (sym (early-halves h (m ++ p)) ∙ sym (settled-whole h (m ++ p) full))
 
 -- the rule of head and window, before the window is full
 pub rule_by-short : (h : Head) (m : List ℕ) (settled : Option Rule) → settled ≡ settled_rule h m → is_full m ≡ false
-    → option_or settled (rule_in_window h (window_of m)) ≡ window_rule_of h m
+    → option_or settled (rule_in_window h (window_of m)) ≡ early_rule h m
 rule_by-short h m settled is short =
-    ap (λ o. option_or o (rule_in_window h (window_of m))) (is ∙ settled-short h m short) ∙ sym (window_rule-halves h m)
+    ap (λ o. option_or o (rule_in_window h (window_of m))) (is ∙ settled-short h m short) ∙ sym (early-halves h m)
 
 none_by : (o : Option Rule) (b : Bool) → is_some o ≡ not b → b ≡ is_none o
 none_by None true is = refl
@@ -103,3 +95,57 @@ text_by-full h m settled b is full some =
 pub text_by-short : (h : Head) (m : List ℕ) → is_full m ≡ false → false ≡ is_in_text h m
 unfolding is_in_text
 text_by-short h m short = rw short refl
+
+-- a body whose window is full, read on
+pub stands_full : (d e : Decider) (h : Head) (m p : List ℕ) → e.facts ≡ d.facts → e.settled ≡ d.settled → e.window.items ≡ d.window.items
+    → e.finished ≡ d.finished → is_full m ≡ true → Stands d h m → Stands e h (m ++ p)
+stands_full d e h m p facts settled window finished full r = record {
+  states = r.states;
+  facts = facts ∙ r.facts;
+  settled = settled_on-full h m p e.settled (settled ∙ r.settled) full;
+  window = window ∙ (r.window ∙ sym (window_longer m p full));
+  active = finished ∙ r.active;
+}
+
+-- what is text of it
+pub text_same : (h : Head) (m : List ℕ) → is_in_text h m ≡ true → text_of h m ≡ m
+text_same h m is = ap (λ b. if b then m else []) is
+
+pub text_none : (h : Head) (m : List ℕ) → is_in_text h m ≡ false → text_of h m ≡ []
+text_none h m is = ap (λ b. if b then m else []) is
+
+text_still : (h : Head) (m p : List ℕ) → is_full m ≡ true → is_in_text h (m ++ p) ≡ is_in_text h m
+unfolding is_in_text
+text_still h m p full = rw (full_longer m p full, full, early-longer h m p full) refl
+
+pub text_on : (t : TextTest) (h : Head) (m p : List ℕ) → is_in_text h m ≡ true → TextHasRead t (text_of h m ++ p) → TextHasRead t (text_of h (m ++ p))
+text_on t h m p is reads =
+    subst (TextHasRead t) (ap (λ u. u ++ p) (text_same h m is) ∙ sym (text_same h (m ++ p) (text-longer h m p is))) reads
+
+pub text_off : (t : TextTest) (h : Head) (m p : List ℕ) → is_full m ≡ true → is_in_text h m ≡ false → TextHasRead t (text_of h m)
+    → TextHasRead t (text_of h (m ++ p))
+text_off t h m p full not_text reads =
+    subst (TextHasRead t) (text_none h m not_text ∙ sym (text_none h (m ++ p) (text_still h m p full ∙ not_text))) reads
+
+-- the window is full now: of what is text, it is the first part
+pub text_begins : (t : TextTest) (h : Head) (m p w rest : List ℕ) → is_in_text h m ≡ false → is_in_text h (m ++ p) ≡ true → m ++ p ≡ w ++ rest
+    → TextHasRead t ((text_of h m ++ w) ++ rest) → TextHasRead t (text_of h (m ++ p))
+text_begins t h m p w rest not_text is cut reads =
+    subst (TextHasRead t) (ap (λ u. (u ++ w) ++ rest) (text_none h m not_text) ∙ sym cut ∙ sym (text_same h (m ++ p) is)) reads
+
+pub text_waits : (t : TextTest) (h : Head) (m p : List ℕ) → is_in_text h m ≡ false → is_in_text h (m ++ p) ≡ false → TextHasRead t (text_of h m)
+    → TextHasRead t (text_of h (m ++ p))
+text_waits t h m p not_text still reads =
+    subst (TextHasRead t) (text_none h m not_text ∙ sym (text_none h (m ++ p) still)) reads
+
+-- a body whose window isn't full is its window
+pub window_whole : (m : List ℕ) → is_full m ≡ false → window_of m ≡ m
+unfolding window_size
+window_whole m short = take_all 1024 m (grind (arith, nat_tests, short))
+
+-- the count of bytes
+pub counted_on : (c : Count) (limit : ℕ) (m p : List ℕ) → HasCounted c limit (length m + length p) → HasCounted c limit (length (m ++ p))
+counted_on c limit m p counted = subst (HasCounted c limit) (sym (length-append m p)) counted
+
+pub not_over_before : (limit : ℕ) (m p : List ℕ) → nat_lt limit (length (m ++ p)) ≡ false → nat_lt limit (length m) ≡ false
+not_over_before limit m p within = grind (arith, nat_tests, length-append m p, within)

@@ -1,10 +1,10 @@
 -- What a decider keeps of a head.
 use Rattle.std.specs.Prelude.{◌≡◌, ℕ, List, Option, is_some}
-use Rattle.mime_types.specs.Sets.{is_safelisted_type, is_never_sniffed_type, is_blocklisted_type, is_plain_text_type, is_media_type}
+use Rattle.mime_types.specs.Sets.{is_safelisted_type, is_never_sniffed_type, is_blocklisted_type, is_plain_text_type, is_html_type, is_xml_type, is_json_type, is_media_type}
 use Rattle.header_values.specs.Questions.{is_nosniff, is_coded}
 use Rattle.response_rules.specs.declared.groups.Groups.{Groups}
 use Rattle.response_rules.specs.declared.facts.Facts.{Facts}
-use Rattle.response_rules.specs.Heads.{Head, HasEssence, is_in, has_front}
+use Rattle.response_rules.specs.Heads.{Head, HasEssence, is_in, has_first}
 
 -- the groups of an essence; of none no group
 abbrev pub groups_of : Option (List ℕ × List ℕ) → Groups
@@ -14,6 +14,9 @@ groups_of essence = record {
   never_sniffed = is_in is_never_sniffed_type essence;
   blocklisted = is_in is_blocklisted_type essence;
   plain_text = is_in is_plain_text_type essence;
+  html = is_in is_html_type essence;
+  xml = is_in is_xml_type essence;
+  json = is_in is_json_type essence;
   media = is_in (λ main sub. is_media_type main) essence;
 }
 
@@ -25,11 +28,12 @@ AreGroups fields groups =
 -- what the rules ask of a head
 abbrev pub facts_of : Head → Facts
 facts_of h = record {
+  policy = h.policy;
   state = h.state;
   opaque = h.opaque;
   status = h.status;
   groups = groups_of h.essence;
   nosniff = is_nosniff h.fields;
   coded = is_coded h.fields;
-  front = has_front h.fields;
+  from_first = has_first h.fields;
 }

@@ -19,7 +19,7 @@ pub record Head : Type 0 where
   pub status : ℕ
   -- the names and values of its fields
   pub fields : List (List ℕ × List ℕ)
-  -- type and subtype, in small letters, of the MIME type that the fields state, if they do
+  -- type and subtype, in ASCII lowercase, of the MIME type that the fields state, if they do
   pub essence : Option (List ℕ × List ℕ)
   -- how many bytes of a body are read for a script
   pub limit : ℕ
@@ -44,18 +44,18 @@ is_in group None = false
 is_in group (Some e) = group e.0 e.1
 
 -- there is a range, and it begins at the first byte
-abbrev pub is_front : Option ContentRange → Bool
-is_front None = false
-is_front (Some range) = range.first == 0
+abbrev pub is_first : Option ContentRange → Bool
+is_first None = false
+is_first (Some range) = range.first == 0
 
 -- there is a value, and it is such a range
-abbrev pub is_front_value : Option (List ℕ) → Bool
-is_front_value None = false
-is_front_value (Some value) = is_front (range_of value)
+abbrev pub is_first_value : Option (List ℕ) → Bool
+is_first_value None = false
+is_first_value (Some value) = is_first (range_of value)
 
 -- Content-Range gives a range that begins at the first byte (RFC 9110 14.4)
-unfoldable pub has_front : List (List ℕ × List ℕ) → Bool
-has_front fields = is_front_value (joined fields (codes "Content-Range"))
+unfoldable pub has_first : List (List ℕ × List ℕ) → Bool
+has_first fields = is_first_value (joined fields (codes "Content-Range"))
 
 abbrev pub is_na : MediaState → Bool
 is_na state.Na = true

@@ -1,15 +1,23 @@
 -- What a decider has read of a response.
-use Rattle.std.specs.Prelude.{◌≡◌, ℕ, ◌-◌, Bool, true, false, nat_lt, if◌then◌else◌, List, length, Option, Some, is_some}
+use Rattle.std.specs.Prelude.{◌≡◌, ℕ, ◌-◌, Bool, true, false, nat_lt, if◌then◌else◌, List, [], length, Option}
 use Rattle.media_state.specs.declared.states.MediaState.{MediaState}
+use Rattle.json_recogniser.specs.JsonTest.{HasRead as JsonHasRead}
+use Rattle.es5_machine.specs.ScriptTests.{HasRead as ScriptHasRead, is_dead}
+use Rattle.es5_machine.specs.declared.script_tests.ScriptTest.{ScriptTest}
 use Rattle.response_rules.specs.declared.verdicts.Policy.{Policy}
 use Rattle.response_rules.specs.declared.verdicts.Progress.{Progress}
 use Rattle.response_rules.specs.declared.verdicts.Progress.TheVariants.{Open, Allowed}
 use Rattle.response_rules.specs.declared.verdicts.Verdict.{Verdict}
+use Rattle.response_rules.specs.declared.rules.Rule.{Rule}
+use Rattle.response_rules.specs.declared.rules.Rule.TheVariants as rule
+use Rattle.response_rules.specs.declared.text.TextTest.{TextTest}
+use Rattle.response_rules.specs.declared.deciding.Count.{Count}
 use Rattle.response_rules.specs.declared.deciding.Decider.{Decider}
-use Rattle.response_rules.specs.Rules.{is_allowing, state_behind}
+use Rattle.response_rules.specs.Rules.{is_allowing, state_after_rule}
 use Rattle.response_rules.specs.Heads.{Head, IsHead}
-use Rattle.response_rules.specs.Tables.{window_of, window_rule_of}
-use Rattle.response_rules.specs.Settled.{settled_rule}
+use Rattle.response_rules.specs.Tables.{window_of, rule_of}
+use Rattle.response_rules.specs.Texts.{is_script, is_json}
+use Rattle.response_rules.specs.Settled.{settled_rule, is_in_text}
 use Rattle.response_rules.specs.Facts.{facts_of}
 
 -- the head of a response that is made of these
@@ -24,23 +32,51 @@ head_of policy state opaque status fields limit essence = record {
   limit = limit;
 }
 
--- the decider was made for a response with this head, and has read this front of its body
-pub record HasRead (d : Decider) (h : Head) (m : List ℕ) : Type 0 where
+-- the rule of a body that is a text of at most the limit
+abbrev pub text_rule : List ℕ → Rule
+text_rule body = if is_script body then (if is_json body then rule.Json else rule.Script) else rule.NotScript
+
+-- both tests have read the bytes; a test of JSON isn't asked where they begin no script
+pub record TextHasRead (t : TextTest) (m : List ℕ) : Type 0 where
+  pub script : ScriptHasRead t.script m
+  pub json : is_dead t.script ≡ false → JsonHasRead t.json m
+
+-- what is read as text of a body: all of it once the window doesn't decide, and nothing before
+abbrev pub text_of : Head → List ℕ → List ℕ
+text_of h m = if is_in_text h m then m else []
+
+-- the script test that a decider holds
+abbrev pub script_of : Decider → ScriptTest
+script_of d = d.text.script
+
+-- so many bytes have been counted
+pub record HasCounted (c : Count) (limit n : ℕ) : Type 0 where
+  pub left : c.left ≡ limit - n
+  pub over : c.over ≡ nat_lt limit n
+
+-- it was made for a response with this head, and knows what this prefix of the body settles
+pub record Stands (d : Decider) (h : Head) (m : List ℕ) : Type 0 where
   pub states : IsHead h
-  pub policy : d.policy ≡ h.policy
   pub facts : d.facts ≡ facts_of h
   pub settled : d.settled ≡ settled_rule h m
   pub window : d.window.items ≡ window_of m
-  pub left : d.left ≡ h.limit - length m
-  pub over : d.over ≡ nat_lt h.limit (length m)
   pub active : d.finished ≡ false
 
--- it has read a body that a rule of the head or the window decides
+-- it has read what is text of the body, unless that is over the limit
+abbrev pub TextStands : Decider → Head → List ℕ → (over : Bool) → Type 0
+TextStands d h m over = over ≡ false → TextHasRead d.text (text_of h m)
+
+-- the decider was made for a response with this head, and has read this prefix of its body
+pub record HasRead (d : Decider) (h : Head) (m : List ℕ) : Type 0 where
+  pub stands : Stands d h m
+  pub counted : HasCounted d.count h.limit (length m)
+  pub text : TextStands d h m (nat_lt h.limit (length m))
+
+-- it has read a prefix of a body, and given no verdict yet
 pub record CanFinish (d : Decider) : Type 0 where
   pub h : Head
   pub m : List ℕ
   pub reads : HasRead d h m
-  pub decided : is_some (window_rule_of h m) ≡ true
 
 -- how far the judgement is, by whether the body may be passed on
 abbrev pub progress_of : Bool → Progress
@@ -48,6 +84,6 @@ progress_of sent = if sent then Allowed else Open
 
 -- the verdict on a response with that whole body
 pub record IsVerdict (h : Head) (body : List ℕ) (verdict : Verdict) : Type 0 where
-  pub rule : window_rule_of h body ≡ Some verdict.rule
+  pub rule : verdict.rule ≡ rule_of h body
   pub allow : verdict.allow ≡ is_allowing verdict.rule
-  pub state : verdict.state ≡ state_behind h.state verdict.rule
+  pub state : verdict.state ≡ state_after_rule h.state verdict.rule

@@ -1,63 +1,82 @@
--- The rules of Opaque Response Blocking: their names, and whether they allow.
+-- The rules by name: whether each allows, and which part of a response settles it.
 use Rattle.std.specs.Prelude.{ℕ, Bool, true, false, List, codes}
 use Rattle.media_state.specs.States.{state_after}
 use Rattle.media_state.specs.declared.states.MediaState.{MediaState}
 use Rattle.response_rules.specs.declared.rules.Rule.{Rule}
 use Rattle.response_rules.specs.declared.rules.Rule.TheVariants as rule
 
+-- the head, the window, or the end of the body
+pub data Part : Type 0 where
+  at_head : Part
+  at_window : Part
+  at_end : Part
+
+-- a row of the table: the name of a rule, whether it allows, and the part that settles it
+pub record Row : Type 0 where
+  pub name : List ℕ
+  pub allows : Bool
+  pub part : Part
+
+abbrev pub allow : List ℕ → Part → Row
+allow name part = record { name = name; allows = true; part = part }
+
+abbrev pub block : List ℕ → Part → Row
+block name part = record { name = name; allows = false; part = part }
+
+unfoldable pub row_of : Rule → Row
+row_of rule.NotOpaque = allow (codes "not-opaque") at_head
+-- Opaque Response Blocking
+row_of rule.Safelisted = allow (codes "safelisted") at_head
+row_of rule.NeverSniffed = block (codes "never-sniffed") at_head
+row_of rule.PartialBlocklisted = block (codes "partial-blocklisted") at_head
+row_of rule.NosniffBlocklisted = block (codes "nosniff-blocklisted") at_head
+row_of rule.Subsequent = allow (codes "subsequent") at_head
+row_of rule.BadRange = block (codes "bad-range") at_head
+row_of rule.Coded = block (codes "coded") at_head
+row_of rule.MediaUnexpected = block (codes "media-unexpected") at_window
+row_of rule.MediaStatus = block (codes "media-status") at_window
+row_of rule.Media = allow (codes "media") at_window
+row_of rule.MediaExpected = block (codes "media-expected") at_window
+row_of rule.Image = allow (codes "image") at_window
+row_of rule.Nosniff = block (codes "nosniff") at_window
+row_of rule.NotOk = block (codes "not-ok") at_window
+row_of rule.Untyped = allow (codes "untyped") at_window
+row_of rule.TypedMedia = block (codes "typed-media") at_window
+row_of rule.BodyLimit = block (codes "body-limit") at_end
+row_of rule.NotScript = block (codes "not-script") at_end
+row_of rule.Json = block (codes "json") at_end
+row_of rule.Script = allow (codes "script") at_end
+-- Cross-Origin Read Blocking
+row_of rule.CorbSafelisted = allow (codes "corb-safelisted") at_head
+row_of rule.CorbNeverSniffed = block (codes "corb-never-sniffed") at_head
+row_of rule.CorbPartial = block (codes "corb-partial") at_head
+row_of rule.CorbNosniff = block (codes "corb-nosniff") at_head
+row_of rule.CorbCoded = block (codes "corb-coded") at_head
+row_of rule.CorbBreaker = block (codes "corb-breaker") at_window
+row_of rule.CorbHtml = block (codes "corb-html") at_window
+row_of rule.CorbXml = block (codes "corb-xml") at_window
+row_of rule.CorbJson = block (codes "corb-json") at_window
+row_of rule.CorbUnprotected = allow (codes "corb-unprotected") at_window
+row_of rule.CorbText = allow (codes "corb-text") at_window
+row_of rule.CorbUnconfirmed = allow (codes "corb-unconfirmed") at_window
+
 -- the name of a rule
-unfoldable pub name_of : Rule → List ℕ
-name_of rule.NotOpaque = codes "not-opaque"
-name_of rule.Safelisted = codes "safelisted"
-name_of rule.NeverSniffed = codes "never-sniffed"
-name_of rule.PartialBlocklisted = codes "partial-blocklisted"
-name_of rule.NosniffBlocklisted = codes "nosniff-blocklisted"
-name_of rule.Subsequent = codes "subsequent"
-name_of rule.BadRange = codes "bad-range"
-name_of rule.Coded = codes "coded"
-name_of rule.MediaUnexpected = codes "media-unexpected"
-name_of rule.MediaStatus = codes "media-status"
-name_of rule.Media = codes "media"
-name_of rule.MediaExpected = codes "media-expected"
-name_of rule.Image = codes "image"
-name_of rule.Nosniff = codes "nosniff"
-name_of rule.NotOk = codes "not-ok"
-name_of rule.Untyped = codes "untyped"
-name_of rule.TypedMedia = codes "typed-media"
-name_of rule.BodyLimit = codes "body-limit"
-name_of rule.NotScript = codes "not-script"
-name_of rule.Json = codes "json"
-name_of rule.Script = codes "script"
+abbrev pub name_of : Rule → List ℕ
+name_of decides = (row_of decides).name
 
 -- a response that the rule decides is allowed
-unfoldable pub is_allowing : Rule → Bool
-is_allowing rule.NotOpaque = true
-is_allowing rule.Safelisted = true
-is_allowing rule.NeverSniffed = false
-is_allowing rule.PartialBlocklisted = false
-is_allowing rule.NosniffBlocklisted = false
-is_allowing rule.Subsequent = true
-is_allowing rule.BadRange = false
-is_allowing rule.Coded = false
-is_allowing rule.MediaUnexpected = false
-is_allowing rule.MediaStatus = false
-is_allowing rule.Media = true
-is_allowing rule.MediaExpected = false
-is_allowing rule.Image = true
-is_allowing rule.Nosniff = false
-is_allowing rule.NotOk = false
-is_allowing rule.Untyped = true
-is_allowing rule.TypedMedia = false
-is_allowing rule.BodyLimit = false
-is_allowing rule.NotScript = false
-is_allowing rule.Json = false
-is_allowing rule.Script = true
+abbrev pub is_allowing : Rule → Bool
+is_allowing decides = (row_of decides).allows
+
+-- the part that settles a rule
+abbrev pub settled_by : Rule → Part
+settled_by decides = (row_of decides).part
 
 -- it lets the response through as audio or video
 unfoldable pub is_media_rule : Rule → Bool
 is_media_rule rule.Media = true
 is_media_rule other = false
 
--- the state of the media resource behind a response that the rule decides
-abbrev pub state_behind : MediaState → Rule → MediaState
-state_behind state decided = state_after state (is_media_rule decided)
+-- the state of the media resource after a response that the rule decides
+abbrev pub state_after_rule : MediaState → Rule → MediaState
+state_after_rule state decided = state_after state (is_media_rule decided)

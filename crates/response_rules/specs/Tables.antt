@@ -1,13 +1,18 @@
--- The table of the rules, after the ORB proposal: what each asks, in the order in which they are asked.
-use Rattle.std.specs.Prelude.{◌≡◌, ℕ, Bool, true, false, not, ◌&&◌, ◌||◌, ◌==◌, nat_le, List, [], ◌∷◌, ◌++◌, take, find, Option, is_some}
+-- The tables of the rules: what each asks, in the order in which they are asked. Those of Opaque Response Blocking are
+-- after the ORB proposal, those of Cross-Origin Read Blocking after the CORB explainer.
+use Rattle.std.specs.Prelude.{◌≡◌, ℕ, Bool, true, false, not, ◌&&◌, ◌||◌, ◌==◌, nat_le, nat_lt, List, [], ◌∷◌, ◌++◌, length, take, find, Option, is_some, unwrap_or}
 use Rattle.std.specs.List.{list_any}
 use Rattle.std.specs.Option.{option_map}
-use Rattle.mime_types.specs.Sets.{is_safelisted_type, is_never_sniffed_type, is_blocklisted_type, is_plain_text_type, is_media_type}
+use Rattle.mime_types.specs.Sets.{is_safelisted_type, is_never_sniffed_type, is_blocklisted_type, is_plain_text_type, is_html_type, is_xml_type, is_json_type, is_media_type}
 use Rattle.header_values.specs.Questions.{is_nosniff, is_coded}
 use Rattle.signatures.specs.Rows.{image_of, media_of}
+use Rattle.corb_sniffers.specs.Values.{has_breaker, sniffs_html, sniffs_xml, sniffs_json}
+use Rattle.response_rules.specs.Texts.{is_script, is_json}
 use Rattle.response_rules.specs.declared.rules.Rule.{Rule}
 use Rattle.response_rules.specs.declared.rules.Rule.TheVariants as rule
-use Rattle.response_rules.specs.Heads.{Head, is_in, has_front, is_na, is_initial, is_subsequent}
+use Rattle.response_rules.specs.declared.verdicts.Policy.{Policy}
+use Rattle.response_rules.specs.declared.verdicts.Policy.TheVariants.{Orb, Corb}
+use Rattle.response_rules.specs.Heads.{Head, is_in, has_first, is_na, is_initial, is_subsequent}
 
 -- how many bytes of a body are looked at for its type
 unfoldable pub window_size : ℕ
@@ -17,9 +22,11 @@ window_size = 1024
 abbrev pub window_of : List ℕ → List ℕ
 window_of body = take window_size body
 
+-- ---- Opaque Response Blocking
+
 -- the rules that the head alone decides, each with whether it holds
-unfoldable pub head_rows : Head → List (Rule × Bool)
-head_rows h =
+unfoldable pub orb_head_rows : Head → List (Rule × Bool)
+orb_head_rows h =
     (rule.NotOpaque, not h.opaque)
     ∷ (rule.Safelisted, is_in is_safelisted_type h.essence)
     ∷ (rule.NeverSniffed, is_in is_never_sniffed_type h.essence)
@@ -30,13 +37,13 @@ head_rows h =
           && (is_in is_blocklisted_type h.essence || is_in is_plain_text_type h.essence),
     )
     ∷ (rule.Subsequent, is_subsequent h.state)
-    ∷ (rule.BadRange, h.status == 206 && not (has_front h.fields))
+    ∷ (rule.BadRange, h.status == 206 && not (has_first h.fields))
     ∷ (rule.Coded, is_coded h.fields)
     ∷ []
 
--- the rules that the window decides, which are asked behind those
-unfoldable pub window_rows : Head → List ℕ → List (Rule × Bool)
-window_rows h window =
+-- the rules that the window decides, which are asked after those
+unfoldable pub orb_window_rows : Head → List ℕ → List (Rule × Bool)
+orb_window_rows h window =
     (rule.MediaUnexpected, is_some (media_of window) && not (is_initial h.state))
     ∷ (rule.MediaStatus, is_some (media_of window) && not (h.status == 200 || h.status == 206))
     ∷ (rule.Media, is_some (media_of window))
@@ -48,29 +55,97 @@ window_rows h window =
     ∷ (rule.TypedMedia, is_in (λ main sub. is_media_type main) h.essence)
     ∷ []
 
--- all of these, for a whole body
+-- the rules that the whole body decides, the last of which always holds
+unfoldable pub orb_end_rows : Head → List ℕ → List (Rule × Bool)
+orb_end_rows h body =
+    (rule.BodyLimit, nat_lt h.limit (length body))
+    ∷ (rule.NotScript, not (is_script body))
+    ∷ (rule.Json, is_json body)
+    ∷ (rule.Script, true)
+    ∷ []
+
+-- ---- Cross-Origin Read Blocking
+
+-- the type is of the group, or plain text
+abbrev pub is_or_plain : (List ℕ → List ℕ → Bool) → Head → Bool
+is_or_plain group h = is_in group h.essence || is_in is_plain_text_type h.essence
+
+-- the type is a protected one, or plain text
+abbrev pub is_guarded : Head → Bool
+is_guarded h = is_or_plain is_blocklisted_type h
+
+unfoldable pub corb_head_rows : Head → List (Rule × Bool)
+corb_head_rows h =
+    (rule.NotOpaque, not h.opaque)
+    ∷ (rule.CorbSafelisted, is_in is_safelisted_type h.essence)
+    ∷ (rule.CorbNeverSniffed, is_in is_never_sniffed_type h.essence)
+    ∷ (rule.CorbPartial, h.status == 206 && is_guarded h)
+    ∷ (rule.CorbNosniff, is_nosniff h.fields && is_guarded h)
+    ∷ (rule.CorbCoded, is_coded h.fields && is_guarded h)
+    ∷ []
+
+-- the last of them always holds
+unfoldable pub corb_window_rows : Head → List ℕ → List (Rule × Bool)
+corb_window_rows h window =
+    (rule.CorbBreaker, not (is_coded h.fields) && has_breaker window)
+    ∷ (rule.CorbHtml, is_or_plain is_html_type h && sniffs_html window)
+    ∷ (rule.CorbXml, is_or_plain is_xml_type h && sniffs_xml window)
+    ∷ (rule.CorbJson, is_or_plain is_json_type h && sniffs_json window)
+    ∷ (rule.CorbUnprotected, not (is_guarded h))
+    ∷ (rule.CorbText, is_in is_plain_text_type h.essence)
+    ∷ (rule.CorbUnconfirmed, true)
+    ∷ []
+
+-- ---- both
+
+abbrev pub head_rows_by : Policy → Head → List (Rule × Bool)
+head_rows_by Orb h = orb_head_rows h
+head_rows_by Corb h = corb_head_rows h
+
+abbrev pub window_rows_by : Policy → Head → List ℕ → List (Rule × Bool)
+window_rows_by Orb h window = orb_window_rows h window
+window_rows_by Corb h window = corb_window_rows h window
+
+abbrev pub end_rows_by : Policy → Head → List ℕ → List (Rule × Bool)
+end_rows_by Orb h body = orb_end_rows h body
+end_rows_by Corb h body = []
+
+unfoldable pub head_rows : Head → List (Rule × Bool)
+head_rows h = head_rows_by h.policy h
+
+unfoldable pub window_rows : Head → List ℕ → List (Rule × Bool)
+window_rows h window = window_rows_by h.policy h window
+
+unfoldable pub end_rows : Head → List ℕ → List (Rule × Bool)
+end_rows h body = end_rows_by h.policy h body
+
+-- the rules of the head and the window, for a body that begins with that window
+abbrev pub early_rows : Head → List ℕ → List (Rule × Bool)
+early_rows h body = head_rows h ++ window_rows h (window_of body)
+
+-- all rules, for a whole body
 abbrev pub rows_of : Head → List ℕ → List (Rule × Bool)
-rows_of h body = head_rows h ++ window_rows h (window_of body)
+rows_of h body = early_rows h body ++ end_rows h body
 
 -- it is the first rule of the table that holds
 pub record IsFirst (rows : List (Rule × Bool)) (decides : Rule) : Type 0 where
   pub before : List (Rule × Bool)
-  pub behind : List (Rule × Bool)
-  pub table : rows ≡ before ++ ((decides, true) ∷ behind)
+  pub after : List (Rule × Bool)
+  pub table : rows ≡ before ++ ((decides, true) ∷ after)
   pub first : list_any (λ row. row.1) before ≡ false
 
--- the rule of the head or the window that decides a response with that whole body
-abbrev pub IsWindowRule : Head → List ℕ → Rule → Type 0
-IsWindowRule h body decides = IsFirst (rows_of h body) decides
-
--- no rule of the head or the window does
-abbrev pub HasNoWindowRule : Head → List ℕ → Type 0
-HasNoWindowRule h body = list_any (λ row. row.1) (rows_of h body) ≡ false
+-- the rule that decides a response with that whole body
+abbrev pub IsRule : Head → List ℕ → Rule → Type 0
+IsRule h body decides = IsFirst (rows_of h body) decides
 
 -- `IsFirst` as a function
 abbrev pub first_rule : List (Rule × Bool) → Option Rule
 first_rule rows = option_map (λ row. row.0) (find (λ row. row.1) rows)
 
--- `IsWindowRule` as a function: none where no rule of the head or the window holds
-unfoldable pub window_rule_of : Head → List ℕ → Option Rule
-window_rule_of h body = first_rule (rows_of h body)
+-- the rule of the head or the window that decides, if one does
+unfoldable pub early_rule : Head → List ℕ → Option Rule
+early_rule h body = first_rule (early_rows h body)
+
+-- `IsRule` as a function: one rule always holds
+unfoldable pub rule_of : Head → List ℕ → Rule
+rule_of h body = unwrap_or (first_rule (rows_of h body)) rule.Script

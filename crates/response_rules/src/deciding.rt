@@ -1,48 +1,80 @@
 //! A response judged while its body comes.
-ghost use Rattle.std.specs.Prelude.{◌≡◌, ◌≤◌, ◌++◌, ℕ, List, length, take, not};
+//!
+//! The head is read once, when the decider is made. The first 1,024 bytes of the body, the window, are kept until the
+//! rules are asked that they decide. Where none of those holds, the body is read as text, once, as it comes: it isn't kept.
+ghost use Rattle.std.specs.Prelude.{◌≡◌, ◌≤◌, ◌+◌, ◌++◌, ℕ, List, length, take, not};
 ghost use Rattle.response_rules.specs.Rules.{is_allowing};
 ghost use Rattle.response_rules.specs.Settled.{is_some_rule};
 ghost use Rattle.response_rules.specs.Reads.{progress_of};
 
-use crate::facts::{Facts, is_from_front};
+use crate::facts::{Facts, is_from_first};
 use crate::groups::read_groups;
 use crate::rules::Rule;
 use crate::tables::{rule_of_head, rule_of_window};
+use crate::text::TextTest;
 use crate::verdicts::{Policy, Progress, Verdict};
 use arrayvec::ArrayVec;
 use header_values::{Fields, Scratch, coded, nosniff};
 use media_state::{MediaState, after};
-use orb_bytes::first_bytes;
 
 /// How many bytes of a body are looked at for its type.
 const WINDOW: usize = 1024;
 
-/// Judges one response, whose body comes in pieces.
+/// How much of a body a limit still lets in.
+#[derive(Clone, Copy)]
+struct Count {
+    left: u64,
+    // The body is longer than the limit.
+    over: bool,
+}
+
+impl Count {
+    ghost use Rattle.response_rules.specs.Reads.{HasCounted};
+
+    fn new(limit: u64) -> Count
+        ensures { HasCounted result limit 0 }
+    {
+        Count {
+            left: limit,
+            over: false,
+        }
+    }
+
+    /// So many bytes more.
+    fn and(self, size: usize) -> Count
+        ensures { (limit n : ℕ) → HasCounted self limit n → HasCounted result limit (n + size) }
+    {
+        let size = size as u64;
+        Count {
+            left: self.left.saturating_sub(size),
+            over: self.over | (self.left < size),
+        }
+    }
+}
+
+/// Judges one response, whose body comes in pieces. It has a fixed size.
 #[derive(Drop)]
 pub struct Decider {
-    policy: Policy,
     facts: Facts,
     // The rule that is known for good.
     settled: Option<Rule>,
     window: ArrayVec<u8, WINDOW>,
-    // How many bytes more the limit lets in, and whether the body is already longer.
-    left: u64,
-    over: bool,
+    count: Count,
+    text: TextTest,
     finished: bool,
 }
 
 impl Decider {
-    ghost use Rattle.std.specs.Prelude.{Bool, Option, Some, false, []};
-    ghost use Rattle.std.specs.Option.{option_or};
+    ghost use Rattle.std.specs.Prelude.{Bool, Option, Some, true, false, [], IsTrue};
     ghost use Rattle.header_values.specs.Fields.{AreOfHead, pairs_in};
+    ghost use Rattle.es5_machine.specs.ScriptTests.{is_dead};
     ghost use Rattle.response_rules.specs.Heads.{Head, HasEssence};
-    ghost use Rattle.response_rules.specs.Tables.{window_rule_of};
-    ghost use Rattle.response_rules.specs.Settled.{is_sent, is_in_text, is_hopeless, rule_in_window};
-    ghost use Rattle.response_rules.specs.Facts.{facts_of};
-    ghost use Rattle.response_rules.specs.Reads.{HasRead, CanFinish, IsVerdict, head_of};
+    ghost use Rattle.response_rules.specs.Tables.{rule_of};
+    ghost use Rattle.response_rules.specs.Settled.{is_sent, is_in_text, is_hopeless};
+    ghost use Rattle.response_rules.specs.Reads.{HasRead, CanFinish, IsVerdict, head_of, script_of};
 
-    /// A decider for a response: its status and fields, the state of the media resource that the request is
-    /// for, whether the request is opaque, and how many bytes of a body are read for a script. The
+    /// A decider for a response: the rules that judge it, its status and fields, the state of the media resource that the
+    /// request is for, whether the request is opaque, and how many bytes of a body are read for a script. The
     /// head is read here, once. The scratch needs room for the head.
     pub fn new(
         policy: Policy,
@@ -61,41 +93,41 @@ impl Decider {
         ensures kept { scratch.new ≡ scratch.old }
     {
         let facts = Facts {
+            policy,
             state,
             opaque,
             status,
             nosniff: nosniff(fields, scratch),
             coded: coded(fields, scratch),
-            front: is_from_front(fields, scratch),
+            from_first: is_from_first(fields, scratch),
             groups: read_groups(fields, scratch),
         };
-        let settled = match policy {
-            Policy::Orb => rule_of_head(&facts),
-        };
         Decider {
-            policy,
+            settled: rule_of_head(&facts),
             facts,
-            settled,
             window: ArrayVec::new(),
-            left: limit,
-            over: false,
+            count: Count::new(limit),
+            text: TextTest::new(),
             finished: false,
         }
     }
 
-    /// Reads the next piece of the body, and tells how far the judgement is.
+    /// Reads the next piece of the body, and tells how far the judgement is. Once nothing can allow the response, it stays
+    /// so.
     pub fn feed(&mut self, piece: &[u8]) -> Progress
         ensures reads { (h : Head) (m : List ℕ) → HasRead self.old h m → HasRead self.new h (m ++ piece.now) }
         ensures gives { (h : Head) (m : List ℕ) → HasRead self.old h m → result ≡ progress_of (is_sent h (m ++ piece.now)) }
+        ensures hopeless { (h : Head) (m : List ℕ) → HasRead self.old h m
+            → is_hopeless h m (is_dead (script_of self.old)) ≡ true
+            → is_hopeless h (m ++ piece.now) (is_dead (script_of self.new)) ≡ true }
     {
-        let size = piece.len() as u64;
-        self.over = self.over | (self.left < size);
-        self.left = self.left.saturating_sub(size);
-        let was_full = self.window.is_full();
-        fill(&mut self.window, piece);
-        if !was_full & self.window.is_full() {
-            self.settled = self.judged();
+        let count = self.count.and(piece.len());
+        if self.window.is_full() {
+            self.read_on(piece, count.over);
+        } else {
+            self.fill(piece, count.over);
         }
+        self.count = count;
         self.progress()
     }
 
@@ -106,26 +138,94 @@ impl Decider {
         progress_by(is_allowed(self.settled))
     }
 
-    /// Whether the body is to be read as text: its window is full, and neither the head nor the window
-    /// decides.
+    /// Whether the body is read as text: its window is full, and neither the head nor the window
+    /// decides. The script test has read it then, unless it is longer than the limit.
     pub fn in_text(&self) -> bool
         ensures { (h : Head) (m : List ℕ) → HasRead self.now h m → result ≡ is_in_text h m }
     {
         self.window.is_full() && self.settled.is_none()
     }
 
-    /// Whether the response is blocked for good, however its body goes on: a rule that blocks is
-    /// known for good.
+    /// Whether nothing can allow the response any more, however its body goes on: a rule of the head or the window that
+    /// blocks is known for good, or the body is read as text and is longer than the limit or the script test is dead.
     pub fn is_hopeless(&self) -> bool
-        ensures { (h : Head) (m : List ℕ) → HasRead self.now h m → result ≡ is_hopeless h m }
+        ensures exact { (h : Head) (m : List ℕ) → HasRead self.now h m
+            → result ≡ is_hopeless h m (is_dead (script_of self.now)) }
+        ensures never { (h : Head) (m more : List ℕ) → HasRead self.now h m → IsTrue result
+            → is_allowing (rule_of h (m ++ more)) ≡ false }
     {
-        is_blocked(self.settled)
+        is_blocked(self.settled) | (self.in_text() & (self.count.over | self.text.is_dead()))
     }
 
-    /// The rule of the head or the window that decides if the body ends here; `None` exactly where
-    /// none holds.
-    pub fn window_rule(&self) -> Option<Rule>
-        ensures { (h : Head) (m : List ℕ) → HasRead self.now h m → result ≡ window_rule_of h m }
+    /// The verdict on the response, where its body ends here. It may be asked once.
+    pub fn finish(&mut self) -> Verdict
+        requires { CanFinish self.old }
+        ensures verdict { (h : Head) (m : List ℕ) → HasRead self.old h m → IsVerdict h m result }
+        ensures over { (h : Head) (m : List ℕ) → HasRead self.new h m → ⊥ }
+    {
+        let before = self.facts.state;
+        let rule = self.rule();
+        self.finished = true;
+        Verdict {
+            rule,
+            allow: rule.allows(),
+            state: after(before, rule.is_media()),
+        }
+    }
+}
+
+impl Decider {
+    ghost use Rattle.std.specs.Prelude.{Bool, Some, None, true, false};
+    ghost use Rattle.std.specs.Option.{option_or};
+    ghost use Rattle.es5_machine.specs.ScriptTests.{is_dead};
+    ghost use Rattle.response_rules.specs.Heads.{Head};
+    ghost use Rattle.response_rules.specs.Tables.{early_rule, rule_of};
+    ghost use Rattle.response_rules.specs.Settled.{is_full, rule_in_window};
+    ghost use Rattle.response_rules.specs.Facts.{facts_of};
+    ghost use Rattle.response_rules.specs.Reads.{HasRead, Stands, TextStands, script_of};
+
+    /// Reads a piece of a body whose window is full. One that is over the limit isn't read as text any more.
+    fn read_on(&mut self, piece: &[u8], over: bool)
+        ensures stands { (h : Head) (m : List ℕ) → is_full m ≡ true → Stands self.old h m → Stands self.new h (m ++ piece.now) }
+        ensures text { (h : Head) (m : List ℕ) → is_full m ≡ true → Stands self.old h m
+            → TextStands self.old h m over → TextStands self.new h (m ++ piece.now) over }
+        ensures dead { is_dead (script_of self.old) ≡ true → is_dead (script_of self.new) ≡ true }
+    {
+        if self.settled.is_none() && !over {
+            self.text.feed(piece);
+        }
+    }
+
+    /// Reads a piece of a body whose window isn't full yet.
+    fn fill(&mut self, piece: &[u8], over: bool)
+        ensures stands { (h : Head) (m : List ℕ) → is_full m ≡ false → Stands self.old h m → Stands self.new h (m ++ piece.now) }
+        ensures text { (h : Head) (m : List ℕ) → is_full m ≡ false → Stands self.old h m
+            → TextStands self.old h m over → TextStands self.new h (m ++ piece.now) over }
+        ensures dead { is_dead (script_of self.old) ≡ true → is_dead (script_of self.new) ≡ true }
+    {
+        let rest = fill(&mut self.window, piece);
+        if self.window.is_full() {
+            self.settled = self.judged();
+            if self.settled.is_none() && !over {
+                self.text.feed(self.window.as_slice());
+                self.text.feed(rest);
+            }
+        }
+    }
+
+    /// The rule, where the body ends here.
+    fn rule(&mut self) -> Rule
+        ensures { (h : Head) (m : List ℕ) → HasRead self.old h m → result ≡ rule_of h m }
+    {
+        match self.early() {
+            Some(rule) => rule,
+            None => self.late(),
+        }
+    }
+
+    /// The rule of the head or the window that decides if the body ends here, if one does.
+    fn early(&self) -> Option<Rule>
+        ensures { (h : Head) (m : List ℕ) → HasRead self.now h m → result ≡ early_rule h m }
     {
         if self.window.is_full() {
             self.settled
@@ -134,22 +234,17 @@ impl Decider {
         }
     }
 
-    /// The verdict, where the body ends here and a rule of the head or the window decides.
-    pub fn finish(&mut self) -> Verdict
-        requires { CanFinish self.old }
-        ensures verdict { (h : Head) (m : List ℕ) → HasRead self.old h m → IsVerdict h m result }
-        ensures over { (h : Head) (m : List ℕ) → HasRead self.new h m → ⊥ }
+    /// The rule of the end, where none of the head or the window decides.
+    fn late(&mut self) -> Rule
+        ensures { (h : Head) (m : List ℕ) → HasRead self.old h m → early_rule h m ≡ None → result ≡ rule_of h m }
     {
-        let rule = match self.window_rule() {
-            Some(rule) => rule,
-            None => unreachable!(),
-        };
-        self.finished = true;
-        Verdict {
-            rule,
-            allow: rule.allows(),
-            state: after(self.facts.state, rule.is_media()),
+        if self.count.over {
+            return Rule::BodyLimit;
         }
+        if !self.window.is_full() {
+            self.text.feed(self.window.as_slice());
+        }
+        self.text.finish()
     }
 
     /// The rule that is known for good, and else the first of the window that holds, where no more bytes come. The
@@ -160,16 +255,7 @@ impl Decider {
     {
         match self.settled {
             Some(rule) => Some(rule),
-            None => self.judge(),
-        }
-    }
-
-    /// The first rule of the window that holds, where no more bytes come.
-    fn judge(&self) -> Option<Rule>
-        ensures { (h : Head) → self.now.facts ≡ facts_of h → result ≡ rule_in_window h self.now.window.items }
-    {
-        match self.policy {
-            Policy::Orb => rule_of_window(&self.facts, self.window.as_slice()),
+            None => rule_of_window(&self.facts, self.window.as_slice()),
         }
     }
 }
@@ -204,13 +290,16 @@ fn progress_by(sent: bool) -> Progress
     }
 }
 
-/// Appends as much of the piece as there is room for.
-fn fill(window: &mut ArrayVec<u8, WINDOW>, piece: &[u8])
-    ensures { window.new.items ≡ take WINDOW (window.old.items ++ piece.now) }
+/// Appends as much of the piece as there is room for, and gives the rest.
+fn fill<'p>(window: &mut ArrayVec<u8, WINDOW>, piece: &'p [u8]) -> &'p [u8]
+    ensures window { window.new.items ≡ take WINDOW (window.old.items ++ piece.now) }
+    ensures rest { window.old.items ++ piece.now ≡ window.new.items ++ result.now }
 {
     let room = window.remaining_capacity();
-    match window.try_extend_from_slice(first_bytes(piece, room)) {
+    let (first, rest) = piece.split_at(room.min(piece.len()));
+    match window.try_extend_from_slice(first) {
         Ok(()) => {}
         Err(_) => unreachable!(),
     }
+    rest
 }

@@ -4,7 +4,7 @@ ghost use Rattle.header_values.specs.Fields.{AreOfHead, pairs_in};
 ghost use Rattle.response_rules.specs.Facts.{AreGroups};
 
 use header_values::{Fields, Scratch, extract_essence};
-use mime_types::{is_blocklisted, is_media, is_never_sniffed, is_safelisted, is_text_plain};
+use mime_types::{is_blocklisted, is_html, is_json, is_media, is_never_sniffed, is_safelisted, is_text_plain, is_xml};
 
 /// Whether there is a type, and the groups that have it.
 #[derive(Clone, Copy)]
@@ -19,6 +19,12 @@ pub(crate) struct Groups {
     pub(crate) blocklisted: bool,
     /// Plain text.
     pub(crate) plain_text: bool,
+    /// HTML.
+    pub(crate) html: bool,
+    /// XML.
+    pub(crate) xml: bool,
+    /// JSON.
+    pub(crate) json: bool,
     /// Audio, image or video.
     pub(crate) media: bool,
 }
@@ -37,6 +43,9 @@ pub(crate) fn read_groups(fields: &Fields, scratch: &mut Scratch) -> Groups
             never_sniffed: is_never_sniffed(&essence),
             blocklisted: is_blocklisted(&essence),
             plain_text: is_text_plain(&essence),
+            html: is_html(&essence),
+            xml: is_xml(&essence),
+            json: is_json(&essence),
             media: is_media(&essence),
         },
         None => Groups {
@@ -45,6 +54,9 @@ pub(crate) fn read_groups(fields: &Fields, scratch: &mut Scratch) -> Groups
             never_sniffed: false,
             blocklisted: false,
             plain_text: false,
+            html: false,
+            xml: false,
+            json: false,
             media: false,
         },
     }

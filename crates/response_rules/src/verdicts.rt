@@ -7,6 +7,8 @@ use media_state::MediaState;
 pub enum Policy {
     /// Opaque Response Blocking.
     Orb,
+    /// Cross-Origin Read Blocking, which came before it.
+    Corb,
 }
 
 /// How far a response is judged.
@@ -25,6 +27,6 @@ pub struct Verdict {
     pub rule: Rule,
     /// Whether it allows the response.
     pub allow: bool,
-    /// The state of the request's media resource behind the response.
+    /// The state of the request's media resource after the response.
     pub state: MediaState,
 }

@@ -1,9 +1,10 @@
-use Rattle.std.proofs.Common.{◌++◌, ap, ◌∙◌}
-use Rattle.response_rules.proofs.ReadLemmas.{filled}
+use Rattle.std.proofs.Common.{◌≡◌, ◌++◌, length, take, sym, ap, ◌∙◌, arith, take-append-drop}
+use Rattle.std.proofs.lemmas.Bool.Decides.{nat_tests}
+use Rattle.response_rules.proofs.ReadLemmas.{filled, take_least}
 use Rattle.response_rules.proofs.deciding.fill.Goals as goal
 
-pub returns : goal.returns
-returns c =
+pub returns-clause-window : goal.returns-clause-window
+returns-clause-window c =
     c.in-Ok.ensures.ok
-    ∙ (ap (λ l. c.args.window.now.items ++ l) c.first_bytes.ensures.bytes
+    ∙ (ap (λ l. c.args.window.now.items ++ l) (c.split_at.ensures.front ∙ take_least _ _ c.args.piece.now c.min.ensures)
     ∙ filled c.args.window.now.items c.args.piece.now _ _ c.remaining_capacity-room.ensures)

@@ -1,5 +1,5 @@
-use Rattle.response_rules.proofs.SettledLemmas.{open-short}
+use Rattle.response_rules.proofs.HopelessLemmas.{hopeful-short}
 use Rattle.response_rules.proofs.laws.open_body_is_short.Goals as goal
 
 pub returns : goal.returns
-returns c = open-short
+returns c = hopeful-short

@@ -1,5 +1,5 @@
-use Rattle.response_rules.proofs.TableLemmas.{rule_is_computed, none_is_computed}
+use Rattle.response_rules.proofs.TableLemmas.{rule_is_computed}
 use Rattle.response_rules.proofs.laws.rule_is_computed.Goals as goal
 
 pub returns : goal.returns
-returns c = record { rule = rule_is_computed; none = none_is_computed }
+returns c = rule_is_computed

@@ -4,8 +4,8 @@ use Rattle.response_rules.proofs.laws.settled_is_for_good.Goals as goal
 
 pub returns : goal.returns
 returns c = record {
-  settled = λ h front more r s.
-      (settled_is_computed h _ r).1 (settled-longer h front more r ((settled_is_computed h front r).0 s));
-  decides = λ h front more r s.
-      (rule_is_computed h _ r).1 (settled-decides h front more r ((settled_is_computed h front r).0 s));
+  settled = λ h prefix more r s.
+      (settled_is_computed h _ r).1 (settled-longer h prefix more r ((settled_is_computed h prefix r).0 s));
+  decides = λ h prefix more r s.
+      (rule_is_computed h _ r).1 (settled-decides h prefix more r ((settled_is_computed h prefix r).0 s));
 }

@@ -1,18 +1,18 @@
-use Rattle.std.proofs.Common.{refl, ◌∙◌}
-use Rattle.response_rules.specs.Tables.{window_rows}
+use Rattle.std.proofs.Common.{◌≡◌, sym, ap, ◌∙◌}
+use Rattle.response_rules.specs.declared.verdicts.Policy.{Policy}
+use Rattle.response_rules.specs.declared.verdicts.Policy.TheVariants.{Orb, Corb}
+use Rattle.response_rules.specs.Tables.{first_rule, window_rows, window_rows_by}
 use Rattle.response_rules.specs.Settled.{rule_in_window}
 use Rattle.response_rules.proofs.tables.rule_of_window.Goals as goal
 
-pub returns : goal.returns
+pub returns-in-Orb : goal.returns-in-Orb
 unfolding rule_in_window window_rows
-returns c = λ h e.
-    c.first_of.ensures
-    ∙ rw (
-      c.is_some-is_media.ensures,
-      c.is_some.ensures,
-      c.media_type.ensures,
-      c.image_type.ensures,
-      c.is_initial_state.ensures,
-      c.is_na_state.ensures,
-      e,
-    ) refl
+returns-in-Orb c = λ h e.
+    let policy : h.policy ≡ Orb = sym (ap (λ f. f.policy) e) ∙ c.in-Orb.is in
+    c.orb_rule_of_window.ensures h e ∙ ap (λ (p : Policy). first_rule (window_rows_by p h c.args.window.now)) (sym policy)
+
+pub returns-in-Corb : goal.returns-in-Corb
+unfolding rule_in_window window_rows
+returns-in-Corb c = λ h e.
+    let policy : h.policy ≡ Corb = sym (ap (λ f. f.policy) e) ∙ c.in-Corb.is in
+    c.corb_rule_of_window.ensures h e ∙ ap (λ (p : Policy). first_rule (window_rows_by p h c.args.window.now)) (sym policy)

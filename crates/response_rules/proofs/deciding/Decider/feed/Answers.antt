@@ -1,43 +1,41 @@
-use Rattle.std.proofs.Common.{◌≡◌, ◌++◌, ◌-◌, ◌||◌, nat_lt, length, ap, ◌∙◌}
-use Rattle.std.specs.Option.{option_or}
-use Rattle.response_rules.specs.Settled.{rule_in_window}
-use Rattle.response_rules.proofs.ReadLemmas.{full_by, window-on, left-on, over-on, settled_on-now, settled_on-still}
+use Rattle.std.proofs.Common.{◌≡◌, ◌++◌, length, length-append, nat_lt, true, false, sym, ap, subst, ◌∙◌}
+use Rattle.response_rules.specs.Reads.{HasRead, HasCounted, TextStands}
+use Rattle.response_rules.proofs.ReadLemmas.{full_by, counted_on, not_over_before}
+use Rattle.response_rules.proofs.HopelessLemmas.{hopeless-longer}
 use Rattle.response_rules.proofs.deciding.Decider.feed.Goals as goal
-use Rattle.response_rules.proofs.deciding.Decider.feed.Goals.{then-was_full-is_full, else-was_full-is_full}
+use Rattle.response_rules.proofs.deciding.Decider.feed.Goals.{then-is_full, else-is_full}
 
 pub returns-clause-reads : goal.returns-clause-reads
 returns-clause-reads c = λ h m r.
     let p = c.args.piece.now in
-    let window = c.fill.ensures ∙ window-on m p c.args.self.now.window.items r.window in
-    let was = c.is_full-was_full.ensures.value ∙ full_by m c.args.self.now.window.items r.window in
-    let now = c.is_full.ensures.value ∙ full_by (m ++ p) _ window in
-    let left = c.saturating_sub-self.ensures ∙ (ap (λ l. l - length p) r.left ∙ left-on h.limit m p) in
-    let over : (c.args.self.now.over || nat_lt c.args.self.now.left (length p)) ≡ nat_lt h.limit (length (m ++ p)) =
-    rw (r.over, r.left) (over-on h.limit m p) in
-    elim c.if-was_full-is_full.branch [
-      | then-was_full-is_full w ↦ rw w.self-is (record {
-        states = r.states;
-        policy = r.policy;
-        facts = r.facts;
-        settled = w.judged-self.ensures h r.facts
-            ∙ (ap (λ t. option_or c.args.self.now.settled (rule_in_window h t)) window
-            ∙ settled_on-now h m p _ _ _ r.settled was now w.if-was_full-is_full.true);
-        window = window;
-        left = left;
-        over = over;
-        active = r.active;
-      })
-      | else-was_full-is_full w ↦ rw w.self-is (record {
-        states = r.states;
-        policy = r.policy;
-        facts = r.facts;
-        settled = settled_on-still h m p _ _ _ r.settled was now w.if-was_full-is_full.false;
-        window = window;
-        left = left;
-        over = over;
-        active = r.active;
-      })
+    let full = full_by m _ r.stands.window in
+    let counted = counted_on c.and-count.result h.limit m p (c.and-count.ensures h.limit (length m) r.counted) in
+    let text : TextStands c.args.self.now h m c.and-count.result.over = λ within. r.text (not_over_before h.limit m p (sym counted.over ∙ within)) in
+    elim c.if-is_full.branch [
+      | then-is_full w ↦
+          let is = sym full ∙ (sym c.is_full.ensures.value ∙ w.if-is_full.true) in
+          let s = w.read_on.ensures.stands h m is r.stands in
+          rw w.self-is (record {
+            stands = record { states = s.states; facts = s.facts; settled = s.settled; window = s.window; active = s.active };
+            counted = counted;
+            text = λ within. w.read_on.ensures.text h m is r.stands text (counted.over ∙ within);
+          })
+      | else-is_full w ↦
+          let is = sym full ∙ (sym c.is_full.ensures.value ∙ w.if-is_full.false) in
+          let s = w.fill.ensures.stands h m is r.stands in
+          rw w.self-is (record {
+            stands = record { states = s.states; facts = s.facts; settled = s.settled; window = s.window; active = s.active };
+            counted = counted;
+            text = λ within. w.fill.ensures.text h m is r.stands text (counted.over ∙ within);
+          })
     ]
 
 pub returns-clause-gives : goal.returns-clause-gives
 returns-clause-gives c = λ h m r. c.progress.ensures h (m ++ c.args.piece.now) (returns-clause-reads c h m r)
+
+pub returns-clause-hopeless : goal.returns-clause-hopeless
+returns-clause-hopeless c = λ h m r is.
+    elim c.if-is_full.branch [
+      | then-is_full w ↦ rw w.self-is (hopeless-longer h m c.args.piece.now _ _ w.read_on.ensures.dead is)
+      | else-is_full w ↦ rw w.self-is (hopeless-longer h m c.args.piece.now _ _ w.fill.ensures.dead is)
+    ]

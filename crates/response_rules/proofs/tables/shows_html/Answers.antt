@@ -1,0 +1,11 @@
+use Rattle.std.proofs.Common.{sym, ap, ◌&&◌, ◌∙◌}
+use Rattle.corb_sniffers.specs.Values.{sniffs_html}
+use Rattle.corb_sniffers.proofs.ValueLemmas.{html_value}
+use Rattle.response_rules.proofs.TextLemmas.{same_truth}
+use Rattle.response_rules.proofs.tables.shows_html.Goals as goal
+
+pub returns-then-asked : goal.returns-then-asked
+returns-then-asked c =
+    let truth = html_value c.args.window.now in
+    same_truth c.sniffs_html.result (sniffs_html c.args.window.now) (λ h. truth.1 (c.sniffs_html.ensures.0 h)) (λ h. c.sniffs_html.ensures.1 (truth.0 h))
+    ∙ sym (ap (λ a. a && sniffs_html c.args.window.now) c.if-asked.true)
