@@ -6,7 +6,8 @@ use Rattle.std.proofs.lemmas.Bool.{cases_Bool, and_parts, eqb-true, not-true}
 use Rattle.orb_bytes.specs.Bytes.{AllPass, is_http_whitespace}
 use Rattle.orb_bytes.specs.Trim.{without_leading}
 use Rattle.orb_bytes.proofs.TrimLemmas.{without_leading-stop}
-use Rattle.corb_sniffers.specs.Json.{SniffsJson, NameUnit, Plain, Escaped, IsUnit, AreUnits, units_text, is_text_byte, quote, backslash, brace, colon}
+use Rattle.corb_sniffers.specs.Json.{SniffsJson, NameUnit, Plain, Escaped, IsUnit, AreUnits, units_text, is_text_byte}
+use Rattle.orb_bytes.specs.Ascii.{quotation_mark, colon, reverse_solidus, left_curly_bracket}
 use Rattle.corb_sniffers.specs.JsonReading.{behind_first, behind_byte, behind_name, behind_colon}
 use Rattle.corb_sniffers.proofs.SpaceLemmas.{leading_cut, leading_passed}
 
@@ -31,28 +32,28 @@ byte_read byte spaces rest all outside =
 
 -- units, the quote, and the rest
 pub name_cut : (text rest : List ℕ) → behind_name text ≡ Some rest
-    → (name : List NameUnit) × AreUnits name × (text ≡ units_text name (quote ∷ rest))
+    → (name : List NameUnit) × AreUnits name × (text ≡ units_text name (quotation_mark ∷ rest))
 name_cut [] rest is = absurd (cc)
 name_cut (b ∷ []) rest is =
-    elim (cases_Bool (b == quote)) [
+    elim (cases_Bool (b == quotation_mark)) [
       | inl same ↦
           let found : Some [] ≡ Some rest = rw same at is in
           let e : [] ≡ rest = cc in
-          ([], tt, ap (λ x. x ∷ []) (eqb-true b quote same) ∙ ap (λ t. quote ∷ t) e)
+          ([], tt, ap (λ x. x ∷ []) (eqb-true b quotation_mark same) ∙ ap (λ t. quotation_mark ∷ t) e)
       | inr other ↦ let none : None ≡ Some rest = rw other at is in absurd (cc)
     ]
 name_cut (b ∷ c ∷ text) rest is =
-    elim (cases_Bool (b == quote)) [
+    elim (cases_Bool (b == quotation_mark)) [
       | inl same ↦
           let found : Some (c ∷ text) ≡ Some rest = rw same at is in
           let e : c ∷ text ≡ rest = cc in
-          ([], tt, ap (λ x. x ∷ c ∷ text) (eqb-true b quote same) ∙ ap (λ t. quote ∷ t) e)
-      | inr no_quote ↦ elim (cases_Bool (b == backslash)) [
+          ([], tt, ap (λ x. x ∷ c ∷ text) (eqb-true b quotation_mark same) ∙ ap (λ t. quotation_mark ∷ t) e)
+      | inr no_quote ↦ elim (cases_Bool (b == reverse_solidus)) [
         | inl escape ↦ elim (cases_Bool (is_text_byte c)) [
           | inl good ↦
               let later : behind_name text ≡ Some rest = rw (no_quote, escape, good) at is in
               let more = name_cut text rest later in
-              (Escaped c ∷ more.0, (good, more.1), ap (λ x. x ∷ c ∷ text) (eqb-true b backslash escape) ∙ ap (λ t. backslash ∷ c ∷ t) more.2)
+              (Escaped c ∷ more.0, (good, more.1), ap (λ x. x ∷ c ∷ text) (eqb-true b reverse_solidus escape) ∙ ap (λ t. reverse_solidus ∷ c ∷ t) more.2)
           | inr bad ↦ let none : None ≡ Some rest = rw (no_quote, escape, bad) at is in absurd (cc)
         ]
         | inr no_escape ↦ elim (cases_Bool (is_text_byte b)) [
@@ -68,31 +69,31 @@ name_cut (b ∷ c ∷ text) rest is =
 -- a plain byte is passed
 plain_passed : (b : ℕ) (text : List ℕ) → IsUnit (Plain b) → behind_name (b ∷ text) ≡ behind_name text
 plain_passed b text good =
-    let parts = and_parts (is_text_byte b) (not (b == quote) && not (b == backslash)) good in
-    let others = and_parts (not (b == quote)) (not (b == backslash)) parts.1 in
-    let no_quote = not-true (b == quote) others.0 in
-    let no_escape = not-true (b == backslash) others.1 in
+    let parts = and_parts (is_text_byte b) (not (b == quotation_mark) && not (b == reverse_solidus)) good in
+    let others = and_parts (not (b == quotation_mark)) (not (b == reverse_solidus)) parts.1 in
+    let no_quote = not-true (b == quotation_mark) others.0 in
+    let no_escape = not-true (b == reverse_solidus) others.1 in
     one text no_quote no_escape parts.0 where
-      one : (text : List ℕ) → (b == quote) ≡ false → (b == backslash) ≡ false → is_text_byte b ≡ true → behind_name (b ∷ text) ≡ behind_name text
+      one : (text : List ℕ) → (b == quotation_mark) ≡ false → (b == reverse_solidus) ≡ false → is_text_byte b ≡ true → behind_name (b ∷ text) ≡ behind_name text
       one [] q e t = rw q refl
       one (c ∷ text) q e t = rw (q, e, t) refl
 
-pub name_read : (name : List NameUnit) (rest : List ℕ) → AreUnits name → behind_name (units_text name (quote ∷ rest)) ≡ Some rest
+pub name_read : (name : List NameUnit) (rest : List ℕ) → AreUnits name → behind_name (units_text name (quotation_mark ∷ rest)) ≡ Some rest
 name_read [] [] good = refl
 name_read [] (c ∷ rest) good = refl
 name_read (Plain b ∷ name) rest good =
-    plain_passed b (units_text name (quote ∷ rest)) good.0 ∙ name_read name rest good.1
+    plain_passed b (units_text name (quotation_mark ∷ rest)) good.0 ∙ name_read name rest good.1
 name_read (Escaped b ∷ name) rest good = rw good.0 (name_read name rest good.1)
 
 -- ---- the whole
 
 pub json_to : (window rest : List ℕ) → behind_colon window ≡ Some rest → SniffsJson window
-json_to window rest is = object (behind_byte brace window) refl is where
-  member : (text name colons : List ℕ) → behind_byte brace window ≡ Some text → behind_byte quote text ≡ Some name
+json_to window rest is = object (behind_byte left_curly_bracket window) refl is where
+  member : (text name colons : List ℕ) → behind_byte left_curly_bracket window ≡ Some text → behind_byte quotation_mark text ≡ Some name
       → behind_name name ≡ Some colons → behind_byte colon colons ≡ Some rest → SniffsJson window
   member text name colons one two three four =
-      let first = byte_cut brace window text one in
-      let second = byte_cut quote text name two in
+      let first = byte_cut left_curly_bracket window text one in
+      let second = byte_cut quotation_mark text name two in
       let third = name_cut name colons three in
       let fourth = byte_cut colon colons rest four in
       record {
@@ -103,30 +104,30 @@ json_to window rest is = object (behind_byte brace window) refl is where
         name = third.0;
         good = third.1;
         rest = rest;
-        cut = first.2 ∙ ap (λ t. first.0 ++ (brace ∷ t))
-            (second.2 ∙ ap (λ t. second.0 ++ (quote ∷ t)) (third.2 ∙ ap (λ t. units_text third.0 (quote ∷ t)) fourth.2));
+        cut = first.2 ∙ ap (λ t. first.0 ++ (left_curly_bracket ∷ t))
+            (second.2 ∙ ap (λ t. second.0 ++ (quotation_mark ∷ t)) (third.2 ∙ ap (λ t. units_text third.0 (quotation_mark ∷ t)) fourth.2));
       }
 
-  named : (text name : List ℕ) (o : Option (List ℕ)) → behind_byte brace window ≡ Some text → behind_byte quote text ≡ Some name
+  named : (text name : List ℕ) (o : Option (List ℕ)) → behind_byte left_curly_bracket window ≡ Some text → behind_byte quotation_mark text ≡ Some name
       → behind_name name ≡ o → option_and_then (behind_byte colon) o ≡ Some rest → SniffsJson window
   named text name None one two three lie = absurd (cc)
   named text name (Some colons) one two three four = member text name colons one two three four
 
-  opened : (text : List ℕ) (o : Option (List ℕ)) → behind_byte brace window ≡ Some text → behind_byte quote text ≡ o
+  opened : (text : List ℕ) (o : Option (List ℕ)) → behind_byte left_curly_bracket window ≡ Some text → behind_byte quotation_mark text ≡ o
       → option_and_then (behind_byte colon) (option_and_then behind_name o) ≡ Some rest → SniffsJson window
   opened text None one two lie = absurd (cc)
   opened text (Some name) one two more = named text name (behind_name name) one two refl more
 
-  object : (o : Option (List ℕ)) → behind_byte brace window ≡ o
-      → option_and_then (behind_byte colon) (option_and_then behind_name (option_and_then (behind_byte quote) o)) ≡ Some rest → SniffsJson window
+  object : (o : Option (List ℕ)) → behind_byte left_curly_bracket window ≡ o
+      → option_and_then (behind_byte colon) (option_and_then behind_name (option_and_then (behind_byte quotation_mark) o)) ≡ Some rest → SniffsJson window
   object None one lie = absurd (cc)
-  object (Some text) one more = opened text (behind_byte quote text) one refl more
+  object (Some text) one more = opened text (behind_byte quotation_mark text) one refl more
 
 pub json_from : (window : List ℕ) (h : SniffsJson window) → behind_colon window ≡ Some h.rest
 json_from window h =
     ap behind_colon h.cut
-    ∙ rw (byte_read brace h.before_brace (h.before_name ++ (quote ∷ units_text h.name (quote ∷ (h.before_colon ++ (colon ∷ h.rest))))) h.spaces.0 refl)
-    (rw (byte_read quote h.before_name (units_text h.name (quote ∷ (h.before_colon ++ (colon ∷ h.rest)))) h.spaces.1 refl)
+    ∙ rw (byte_read left_curly_bracket h.before_brace (h.before_name ++ (quotation_mark ∷ units_text h.name (quotation_mark ∷ (h.before_colon ++ (colon ∷ h.rest))))) h.spaces.0 refl)
+    (rw (byte_read quotation_mark h.before_name (units_text h.name (quotation_mark ∷ (h.before_colon ++ (colon ∷ h.rest)))) h.spaces.1 refl)
     (rw (name_read h.name (h.before_colon ++ (colon ∷ h.rest)) h.good) (byte_read colon h.before_colon h.rest h.spaces.2 refl)))
 
 -- what was read tells whether the window sniffs as JSON

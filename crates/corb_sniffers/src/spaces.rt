@@ -1,5 +1,6 @@
 //! White space in front of a text.
 ghost use Rattle.std.specs.Prelude.{◌≡◌, true};
+ghost use Rattle.orb_bytes.specs.Ascii.{space};
 ghost use Rattle.orb_bytes.specs.Bytes.{is_one_of, is_whitespace_byte, is_http_whitespace};
 ghost use Rattle.orb_bytes.specs.Trim.{without_leading};
 
@@ -22,7 +23,7 @@ pub fn after_json_spaces(text: &[u8]) -> &[u8]
 
 /// The text without its leading bytes of the class, to which space belongs.
 fn after_class<'t>(class: &[u8], text: &'t [u8]) -> &'t [u8]
-    requires { is_one_of class.now 32 ≡ true }
+    requires { is_one_of class.now space ≡ true }
     ensures { result.now ≡ without_leading (is_one_of class.now) text.now }
 {
     let mut rest = text;

@@ -2,6 +2,7 @@
 -- them by trees, is the law `one_cut`.
 use Rattle.std.specs.Prelude.{◌≡◌, ℕ, Bool, false, ◌==◌, if◌then◌else◌, List, [], ◌∷◌, ◌++◌, map, Option, Some, None}
 use Rattle.std.specs.Option.{option_copied}
+use Rattle.orb_bytes.specs.Ascii.{quotation_mark, comma, reverse_solidus}
 use Rattle.orb_bytes.specs.Bytes.{is_tab_or_space}
 use Rattle.orb_bytes.specs.Trim.{trimmed}
 use Rattle.header_values.specs.declared.split.Place.{Place}
@@ -11,13 +12,13 @@ use Rattle.header_values.specs.Parts.{IsParts}
 
 -- where the byte behind this one stands
 abbrev pub after : Place → ℕ → Place
-after Outside b = if b == 34 then Inside else Outside
-after Inside b = if b == 34 then Outside else (if b == 92 then Escaped else Inside)
+after Outside b = if b == quotation_mark then Inside else Outside
+after Inside b = if b == quotation_mark then Outside else (if b == reverse_solidus then Escaped else Inside)
 after Escaped b = Inside
 
 -- a comma outside of the quoted strings
 abbrev pub is_cut : Place → ℕ → Bool
-is_cut Outside b = b == 44
+is_cut Outside b = b == comma
 is_cut Inside b = false
 is_cut Escaped b = false
 

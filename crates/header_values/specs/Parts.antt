@@ -1,6 +1,7 @@
 -- The parts of a field value: what its commas separate (WHATWG Fetch 2.2: get, decode, and split).
 use Rattle.std.specs.Prelude.{◌≡◌, ℕ, Bool, true, false, ◌&&◌, ◌||◌, ◌==◌, not, List, [], ◌∷◌, ◌++◌, map}
 use Rattle.std.specs.List.{list_all, flat_map}
+use Rattle.orb_bytes.specs.Ascii.{quotation_mark, comma}
 use Rattle.orb_bytes.specs.Bytes.{is_tab_or_space}
 use Rattle.orb_bytes.specs.Trim.{trimmed}
 use Rattle.mime_types.specs.Mime.{is_empty, QuotedUnit, print_unit, is_unit, Close, print_close, is_at_end}
@@ -12,11 +13,11 @@ pub data Piece : Type 0 where
 
 abbrev pub print_piece : Piece → List ℕ
 print_piece (bare byte) = byte ∷ []
-print_piece (string units close) = 34 ∷ (flat_map print_unit units ++ print_close close)
+print_piece (string units close) = quotation_mark ∷ (flat_map print_unit units ++ print_close close)
 
 -- the byte is neither `,` nor `"`
 abbrev pub is_piece : Piece → Bool
-is_piece (bare byte) = not (byte == 44 || byte == 34)
+is_piece (bare byte) = not (byte == comma || byte == quotation_mark)
 is_piece (string units close) = list_all is_unit units
 
 -- the piece goes to the end of the value
@@ -41,7 +42,7 @@ is_closed pieces = list_all (λ piece. not (is_last piece)) pieces
 abbrev pub print_parts : List (List Piece) → List ℕ
 print_parts [] = []
 print_parts (part ∷ []) = print_part part
-print_parts (part ∷ (next ∷ parts)) = print_part part ++ (44 ∷ print_parts (next ∷ parts))
+print_parts (part ∷ (next ∷ parts)) = print_part part ++ (comma ∷ print_parts (next ∷ parts))
 
 -- there are some, each is valid, and none follows one that goes to the end of the value
 abbrev pub are_parts : List (List Piece) → Bool

@@ -4,12 +4,9 @@ use Rattle.std.specs.Prelude.{◌≡◌, ℕ, ◌≤◌, Bool, true, ◌&&◌, n
 use Rattle.std.specs.List.{list_all}
 use Rattle.std.specs.Char.{is_ascii_hexdigit}
 use Rattle.std.specs.Str.Parse.{digits_value}
+use Rattle.orb_bytes.specs.Ascii.{tab, space, semicolon, crlf}
 use Rattle.orb_bytes.specs.Bytes.{is_one_of, is_quoted_token_byte}
 use Rattle.http_exchange.specs.Marks.{Mark, bytes_of, content_of, framing, content}
-
--- the end of a line
-abbrev pub crlf : List ℕ
-crlf = 13 ∷ 10 ∷ []
 
 -- a byte of a line: a tab, 20 to 7E, or 80 to FF
 abbrev pub is_line_byte : ℕ → Bool
@@ -17,7 +14,7 @@ is_line_byte b = is_quoted_token_byte b
 
 -- a byte that ends the digits of a size: a tab, a space or `;`
 abbrev pub is_separator : ℕ → Bool
-is_separator b = is_one_of (9 ∷ 32 ∷ 59 ∷ []) b
+is_separator b = is_one_of (tab ∷ space ∷ semicolon ∷ []) b
 
 -- the digits of a size (chunk-size), and what stands behind them on the line (chunk-ext)
 pub record SizeLine : Type 0 where

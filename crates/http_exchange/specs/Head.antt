@@ -1,10 +1,11 @@
 -- Where a head ends: behind its first empty line (RFC 9112 2.1 and 2.2).
-use Rattle.std.specs.Prelude.{ℕ, suc, Bool, List, [], ◌∷◌, take, bytes_eq, Option, Some, None, if◌then◌else◌}
+use Rattle.std.specs.Prelude.{ℕ, suc, Bool, List, [], ◌∷◌, ◌++◌, take, bytes_eq, Option, Some, None, if◌then◌else◌}
 use Rattle.std.specs.Option.{option_map}
+use Rattle.orb_bytes.specs.Ascii.{crlf}
 
 -- the end of a line and an empty line: CR LF CR LF
 abbrev pub head_end_bytes : List ℕ
-head_end_bytes = 13 ∷ 10 ∷ 13 ∷ 10 ∷ []
+head_end_bytes = crlf ++ crlf
 
 -- the bytes begin with them
 abbrev pub begins_with_end : List ℕ → Bool

@@ -2,6 +2,7 @@
 -- `specs/Chunked` says what a chunked body is; this says no more of it.
 use Rattle.std.specs.Prelude.{ℕ, zero, suc, ◌+◌, ◌*◌, ◌^◌, ◌<◌, ◌≤◌, Bool, true, false, ◌==◌, nat_lt, List, [], ◌∷◌, if◌then◌else◌}
 use Rattle.std.specs.Char.{is_ascii_hexdigit, digit_value}
+use Rattle.orb_bytes.specs.Ascii.{line_feed, carriage_return}
 use Rattle.http_exchange.specs.Marks.{Mark, Frame, Content, content_of}
 use Rattle.http_exchange.specs.Chunked.{is_line_byte, is_separator}
 use Rattle.http_exchange.specs.declared.places.Place.{Place}
@@ -38,17 +39,17 @@ step (Size size digits) b =
     if is_ascii_hexdigit b then (if nat_lt digits 15 then Size (size * 16 + digit_value b) (digits + 1) else Dead)
     else if digits == 0 then Dead
     else if is_separator b then SizeEnding size
-    else if b == 13 then SizeLf size else Dead
-step (SizeEnding size) b = if is_line_byte b then SizeEnding size else if b == 13 then SizeLf size else Dead
-step (SizeLf size) b = if b == 10 then behind_size size else Dead
+    else if b == carriage_return then SizeLf size else Dead
+step (SizeEnding size) b = if is_line_byte b then SizeEnding size else if b == carriage_return then SizeLf size else Dead
+step (SizeLf size) b = if b == line_feed then behind_size size else Dead
 step (Data zero) b = DataCr
 step (Data (suc n)) b = with_left n
-step DataCr b = if b == 13 then DataLf else Dead
-step DataLf b = if b == 10 then Size 0 0 else Dead
-step LineStart b = if is_line_byte b then TrailerLine else if b == 13 then LastLf else Dead
-step TrailerLine b = if is_line_byte b then TrailerLine else if b == 13 then TrailerLf else Dead
-step TrailerLf b = if b == 10 then LineStart else Dead
-step LastLf b = if b == 10 then Whole else Dead
+step DataCr b = if b == carriage_return then DataLf else Dead
+step DataLf b = if b == line_feed then Size 0 0 else Dead
+step LineStart b = if is_line_byte b then TrailerLine else if b == carriage_return then LastLf else Dead
+step TrailerLine b = if is_line_byte b then TrailerLine else if b == carriage_return then TrailerLf else Dead
+step TrailerLf b = if b == line_feed then LineStart else Dead
+step LastLf b = if b == line_feed then Whole else Dead
 step Whole b = Dead
 step Dead b = Dead
 

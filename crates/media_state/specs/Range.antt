@@ -2,6 +2,7 @@
 -- numbers of 1 to 19 digits.
 use Rattle.std.specs.Prelude.{◌≡◌, ℕ, ◌<◌, ◌≤◌, Bool, true, ◌&&◌, ◌==◌, nat_lt, nat_le, List, ◌∷◌, ◌++◌, codes, bytes_eq, IsTrue, IfSome, Option, Some, None, if◌then◌else◌}
 use Rattle.std.specs.List.{before_first, after_first}
+use Rattle.orb_bytes.specs.Ascii.{space, hyphen_minus, solidus}
 use Rattle.orb_bytes.specs.Bytes.{is_tab_or_space}
 use Rattle.orb_bytes.specs.Trim.{trimmed}
 use Rattle.orb_bytes.specs.Decimal.{decimal_of}
@@ -17,7 +18,7 @@ pub record Written : Type 0 where
 
 -- `unit first-last/complete`
 abbrev pub print_range : Written → List ℕ
-print_range w = w.unit ++ (32 ∷ (w.first ++ (45 ∷ (w.last ++ (47 ∷ w.complete)))))
+print_range w = w.unit ++ (space ∷ (w.first ++ (hyphen_minus ∷ (w.last ++ (solidus ∷ w.complete)))))
 
 -- the complete length: a number, or `*` where it isn't known
 abbrev pub IsComplete : List ℕ → Option ℕ → Type 0
@@ -73,11 +74,11 @@ behind_byte stop text = after_first (λ b. b == stop) text
 -- the range of a text without white space at its ends
 abbrev pub range_in : List ℕ → Option ContentRange
 range_in text =
-    let range = behind_byte 32 text in
-    let rest = behind_byte 45 range in
-    if same_name (before_byte 32 text) (codes "bytes")
-    then range_from (decimal_of (before_byte 45 range)) (decimal_of (before_byte 47 rest))
-    (complete_of (behind_byte 47 rest))
+    let range = behind_byte space text in
+    let rest = behind_byte hyphen_minus range in
+    if same_name (before_byte space text) (codes "bytes")
+    then range_from (decimal_of (before_byte hyphen_minus range)) (decimal_of (before_byte solidus rest))
+    (complete_of (behind_byte solidus rest))
     else None
 
 -- `IsRange` as a function: the range that the value stands for, if it does for one

@@ -4,6 +4,7 @@
 use Rattle.std.specs.Prelude.{◌≡◌, ℕ, Bool, true, false, ◌&&◌, ◌||◌, ◌==◌, not, if◌then◌else◌, List, [], ◌∷◌, ◌++◌, map, filter, Option, Some, None, option_map, bytes_eq}
 use Rattle.std.specs.List.{list_all, flat_map, filter_map}
 use Rattle.std.specs.Str.{str_to_ascii_lowercase}
+use Rattle.orb_bytes.specs.Ascii.{quotation_mark, solidus, semicolon, equals_sign, reverse_solidus}
 use Rattle.orb_bytes.specs.Bytes.{AllPass, is_http_whitespace, is_token_byte, is_quoted_token_byte}
 use Rattle.orb_bytes.specs.Trim.{trimmed, without_trailing}
 use Rattle.mime_types.specs.Spans.{begins_outside}
@@ -31,11 +32,11 @@ pub data QuotedUnit : Type 0 where
 -- the bytes of a unit
 abbrev pub print_unit : QuotedUnit → List ℕ
 print_unit (itself byte) = byte ∷ []
-print_unit (escaped byte) = 92 ∷ (byte ∷ [])
+print_unit (escaped byte) = reverse_solidus ∷ (byte ∷ [])
 
 -- neither `"` nor `\` stands for itself
 abbrev pub is_unit : QuotedUnit → Bool
-is_unit (itself byte) = not (byte == 34 || byte == 92)
+is_unit (itself byte) = not (byte == quotation_mark || byte == reverse_solidus)
 is_unit (escaped byte) = true
 
 -- the byte that the unit stands for
@@ -49,15 +50,15 @@ pub data Close : Type 0 where
 
 -- the bytes of a close
 abbrev pub print_close : Close → List ℕ
-print_close by_quote = 34 ∷ []
+print_close by_quote = quotation_mark ∷ []
 print_close by_end = []
-print_close by_backslash = 92 ∷ []
+print_close by_backslash = reverse_solidus ∷ []
 
 -- a `\` at the end of the text stands for itself
 abbrev pub close_value : Close → List ℕ
 close_value by_quote = []
 close_value by_end = []
-close_value by_backslash = 92 ∷ []
+close_value by_backslash = reverse_solidus ∷ []
 
 -- the string goes to the end of the text
 abbrev pub is_at_end : Close → Bool
@@ -80,12 +81,12 @@ pub data Assigned : Type 0 where
 abbrev pub print_assigned : Assigned → List ℕ
 print_assigned nothing = []
 print_assigned (quoted units close ignored) =
-    61 ∷ (34 ∷ (flat_map print_unit units ++ (print_close close ++ ignored)))
-print_assigned (plain value) = 61 ∷ value
+    equals_sign ∷ (quotation_mark ∷ (flat_map print_unit units ++ (print_close close ++ ignored)))
+print_assigned (plain value) = equals_sign ∷ value
 
 -- a byte other than `;`
 abbrev pub is_no_semicolon : ℕ → Bool
-is_no_semicolon b = not (b == 59)
+is_no_semicolon b = not (b == semicolon)
 
 -- what is ignored, and a plain value, end at the next `;`. A plain value doesn't begin with `"`,
 -- and behind a string that goes to the end of the text nothing is ignored.
@@ -94,7 +95,7 @@ is_assigned nothing = true
 is_assigned (quoted units close ignored) =
     list_all is_unit units
     && (if is_at_end close then is_empty ignored else list_all is_no_semicolon ignored)
-is_assigned (plain value) = begins_outside (λ b. b == 34) value && list_all is_no_semicolon value
+is_assigned (plain value) = begins_outside (λ b. b == quotation_mark) value && list_all is_no_semicolon value
 
 -- it goes to the end of the text
 abbrev pub is_last : Assigned → Bool
@@ -111,11 +112,11 @@ pub record Segment : Type 0 where
 
 -- the bytes of a segment
 abbrev pub print_segment : Segment → List ℕ
-print_segment s = 59 ∷ (s.space ++ (s.name ++ print_assigned s.assigned))
+print_segment s = semicolon ∷ (s.space ++ (s.name ++ print_assigned s.assigned))
 
 -- a byte of a name: any but `;` and `=`
 abbrev pub is_name_byte : ℕ → Bool
-is_name_byte b = not (b == 59 || b == 61)
+is_name_byte b = not (b == semicolon || b == equals_sign)
 
 -- each part is of its class, and a name begins with no HTTP whitespace
 abbrev pub is_segment : Segment → Bool
@@ -144,7 +145,7 @@ pub record Cut : Type 0 where
 -- the parts are valid, and the text without HTTP whitespace at its ends is these parts
 pub record IsCut (text : List ℕ) (cut : Cut) : Type 0 where
   pub whole : trimmed is_http_whitespace text
-      ≡ cut.main ++ (47 ∷ (cut.sub ++ (cut.space ++ print_segments cut.segments)))
+      ≡ cut.main ++ (solidus ∷ (cut.sub ++ (cut.space ++ print_segments cut.segments)))
   pub main : is_token cut.main ≡ true
   pub sub : is_token cut.sub ≡ true
   pub space : AllPass is_http_whitespace cut.space

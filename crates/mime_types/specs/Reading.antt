@@ -1,6 +1,7 @@
 -- What a reader of a text has found so far: a tree at the front, and the rest behind it.
 use Rattle.std.specs.Prelude.{◌≡◌, ℕ, true, ◌&&◌, not, if◌then◌else◌, List, [], ◌∷◌, ◌++◌, Option, Some, None}
 use Rattle.std.specs.List.{list_all, flat_map}
+use Rattle.orb_bytes.specs.Ascii.{solidus}
 use Rattle.orb_bytes.specs.Bytes.{AllPass, is_http_whitespace}
 use Rattle.orb_bytes.specs.Trim.{trimmed}
 use Rattle.mime_types.specs.Spans.{begins_outside}
@@ -10,7 +11,7 @@ use Rattle.mime_types.specs.Records.{has_name}
 -- the text writes this type and subtype, and then the tail, which is empty or begins with `;`
 pub record ReadsEssence (text main sub tail : List ℕ) : Type 0 where
   pub space : List ℕ
-  pub whole : trimmed is_http_whitespace text ≡ main ++ (47 ∷ (sub ++ (space ++ tail)))
+  pub whole : trimmed is_http_whitespace text ≡ main ++ (solidus ∷ (sub ++ (space ++ tail)))
   pub is_main : is_token main ≡ true
   pub is_sub : is_token sub ≡ true
   pub is_space : AllPass is_http_whitespace space

@@ -1,20 +1,21 @@
 -- The text of a MIME type record (WHATWG MIME Sniffing 4.5).
 use Rattle.std.specs.Prelude.{ℕ, ◌||◌, ◌==◌, if◌then◌else◌, List, [], ◌∷◌, ◌++◌}
 use Rattle.std.specs.List.{flat_map}
+use Rattle.orb_bytes.specs.Ascii.{quotation_mark, solidus, semicolon, equals_sign, reverse_solidus}
 use Rattle.mime_types.specs.Mime.{Mime, is_token}
 
 -- a byte between quotes: `"` and `\` have a `\` before them
 abbrev pub quoted_byte : ℕ → List ℕ
-quoted_byte b = if b == 34 || b == 92 then 92 ∷ (b ∷ []) else b ∷ []
+quoted_byte b = if b == quotation_mark || b == reverse_solidus then reverse_solidus ∷ (b ∷ []) else b ∷ []
 
 -- a value: as it is where it is a token, and else between quotes, the empty one too
 abbrev pub value_text : List ℕ → List ℕ
-value_text value = if is_token value then value else 34 ∷ (flat_map quoted_byte value ++ (34 ∷ []))
+value_text value = if is_token value then value else quotation_mark ∷ (flat_map quoted_byte value ++ (quotation_mark ∷ []))
 
 -- a parameter: `;`, the name, `=` and the value
 abbrev pub parameter_text : List ℕ × List ℕ → List ℕ
-parameter_text pair = 59 ∷ (pair.0 ++ (61 ∷ value_text pair.1))
+parameter_text pair = semicolon ∷ (pair.0 ++ (equals_sign ∷ value_text pair.1))
 
 -- type, `/`, subtype, and the parameters in their order
 abbrev pub text_of : Mime → List ℕ
-text_of m = m.main ++ (47 ∷ (m.sub ++ flat_map parameter_text m.parameters))
+text_of m = m.main ++ (solidus ∷ (m.sub ++ flat_map parameter_text m.parameters))

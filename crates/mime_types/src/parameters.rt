@@ -5,6 +5,7 @@
 //! takes a time of the square of their number.
 ghost use Rattle.std.specs.Prelude.{◌≡◌, true, ◌&&◌, not, [], ◌∷◌, ◌++◌, Some, OnOk, OnErr, IfOk, bytes_eq, option_copied};
 ghost use Rattle.std.specs.List.{list_any, find};
+ghost use Rattle.orb_bytes.specs.Ascii.{semicolon};
 ghost use Rattle.mime_types.specs.Spans.{begins_outside};
 ghost use Rattle.mime_types.specs.Mime.{Segment, is_no_semicolon, pair_of, is_parameter};
 ghost use Rattle.mime_types.specs.Records.{has_name};
@@ -43,7 +44,7 @@ fn read_segment<'t>(
     text: &'t [u8],
     kept: &mut Vec<Parameter>,
 ) -> Result<&'t [u8], AllocError>
-    ensures { IfOk result (λ rest. (s : Segment) × ReadsSegment (59 ∷ text.now) s rest.now
+    ensures { IfOk result (λ rest. (s : Segment) × ReadsSegment (semicolon ∷ text.now) s rest.now
         × (pairs_in kept.new.items ≡ kept_with (pairs_in kept.old.items) (pair_of s))) }
 {
     let (name, behind) = split_name(trim_http_ws_start(text));

@@ -2,6 +2,7 @@
 use Rattle.std.specs.Prelude.{ℕ, Bool, ◌&&◌, ◌||◌, ◌==◌, ◌≡◌, true, nat_le, List, [], ◌∷◌, codes}
 use Rattle.std.specs.List.{list_all, list_any}
 use Rattle.std.specs.Char.{is_ascii_alphanumeric}
+use Rattle.orb_bytes.specs.Ascii.{tab, line_feed, form_feed, carriage_return, space, greater_than_sign, tilde, least_past_ascii, greatest_byte}
 
 -- the byte is one of these
 abbrev pub is_one_of : List ℕ → ℕ → Bool
@@ -13,19 +14,19 @@ AllPass test text = list_all test text ≡ true
 
 -- HTTP whitespace: tab, line feed, carriage return and space (WHATWG Fetch 2.2, MIME Sniffing 3)
 abbrev pub is_http_whitespace : ℕ → Bool
-is_http_whitespace b = is_one_of (9 ∷ 10 ∷ 13 ∷ 32 ∷ []) b
+is_http_whitespace b = is_one_of (tab ∷ line_feed ∷ carriage_return ∷ space ∷ []) b
 
 -- HTTP tab or space (WHATWG Fetch 2.2)
 abbrev pub is_tab_or_space : ℕ → Bool
-is_tab_or_space b = is_one_of (9 ∷ 32 ∷ []) b
+is_tab_or_space b = is_one_of (tab ∷ space ∷ []) b
 
 -- a whitespace byte: tab, line feed, form feed, carriage return and space (WHATWG MIME Sniffing 3)
 abbrev pub is_whitespace_byte : ℕ → Bool
-is_whitespace_byte b = is_one_of (9 ∷ 10 ∷ 12 ∷ 13 ∷ 32 ∷ []) b
+is_whitespace_byte b = is_one_of (tab ∷ line_feed ∷ form_feed ∷ carriage_return ∷ space ∷ []) b
 
 -- a tag-terminating byte: space and `>` (WHATWG MIME Sniffing 3)
 abbrev pub is_tag_terminating : ℕ → Bool
-is_tag_terminating b = is_one_of (32 ∷ 62 ∷ []) b
+is_tag_terminating b = is_one_of (space ∷ greater_than_sign ∷ []) b
 
 -- an HTTP token code point (WHATWG MIME Sniffing 3)
 abbrev pub is_token_byte : ℕ → Bool
@@ -33,4 +34,5 @@ is_token_byte b = is_ascii_alphanumeric b || is_one_of (codes "!#$%&'*+-.^_`|~")
 
 -- an HTTP quoted-string token code point (WHATWG MIME Sniffing 3)
 abbrev pub is_quoted_token_byte : ℕ → Bool
-is_quoted_token_byte b = b == 9 || (nat_le 32 b && nat_le b 126) || (nat_le 128 b && nat_le b 255)
+is_quoted_token_byte b =
+    b == tab || (nat_le space b && nat_le b tilde) || (nat_le least_past_ascii b && nat_le b greatest_byte)

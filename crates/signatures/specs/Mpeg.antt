@@ -2,14 +2,32 @@
 -- layer 3, the second where the first one's frame ends.
 use Rattle.std.specs.Prelude.{◌≡◌, ◌≢◌, ℕ, ◌+◌, ◌-◌, ◌*◌, ◌/◌, ◌≤◌, Bool, not, ◌&&◌, ◌==◌, nat_le, List, [], ◌∷◌, length, slice_index, bit_and, if◌then◌else◌}
 
--- the version bits of a header's second byte: 0x18 is version 1, 0x10 version 2, 0x00 version 2.5, and
--- 0x08 is reserved
+-- the first byte of a header, and the bits of the second that are set in each header
+abbrev pub sync_byte : ℕ
+sync_byte = 0xFF
+
+abbrev pub sync_bits : ℕ
+sync_bits = 0xE0
+
+-- the version bits of the second byte. What is neither version 1 nor 2 nor reserved is version 2.5
 abbrev pub version_of : ℕ → ℕ
 version_of second = bit_and second 0x18
 
--- the layer bits of the second byte: 0x02 is layer 3
+abbrev pub version_1 : ℕ
+version_1 = 0x18
+
+abbrev pub version_2 : ℕ
+version_2 = 0x10
+
+abbrev pub reserved_version : ℕ
+reserved_version = 0x08
+
+-- the layer bits of the second byte
 abbrev pub layer_of : ℕ → ℕ
 layer_of second = bit_and second 0x06
+
+abbrev pub layer_3 : ℕ
+layer_3 = 0x02
 
 -- the index of the bit rate: the top four bits of the third byte
 abbrev pub bit_rate_index : ℕ → ℕ
@@ -17,7 +35,7 @@ bit_rate_index third = third / 16
 
 -- the index of the sample rate: the two bits below those
 abbrev pub sample_rate_index : ℕ → ℕ
-sample_rate_index third = bit_and third 0x0c / 4
+sample_rate_index third = bit_and third 0x0C / 4
 
 -- one byte more, where the padding bit of the third byte is set
 abbrev pub padding_of : ℕ → ℕ
@@ -34,7 +52,7 @@ version_2_bit_rates =
 
 abbrev pub bit_rate : ℕ → ℕ → ℕ
 bit_rate version index =
-    slice_index (if version == 0x18 then version_1_bit_rates else version_2_bit_rates) (index - 1)
+    slice_index (if version == version_1 then version_1_bit_rates else version_2_bit_rates) (index - 1)
 
 -- samples a second for the indices 0 to 2
 unfoldable pub version_1_sample_rates : List ℕ
@@ -48,12 +66,12 @@ version_2_5_sample_rates = 11025 ∷ 12000 ∷ 8000 ∷ []
 
 abbrev pub sample_rate : ℕ → ℕ → ℕ
 sample_rate version index =
-    slice_index (if version == 0x18 then version_1_sample_rates
-    else if version == 0x10 then version_2_sample_rates else version_2_5_sample_rates) index
+    slice_index (if version == version_1 then version_1_sample_rates
+    else if version == version_2 then version_2_sample_rates else version_2_5_sample_rates) index
 
 -- an eighth of a frame's samples, 1,152 in version 1 and else 576, times the bits of a kilobit
 abbrev pub scale_of : ℕ → ℕ
-scale_of version = if version == 0x18 then 144000 else 72000
+scale_of version = if version == version_1 then 144000 else 72000
 
 -- the bytes of the frame whose header has this second and third byte
 abbrev pub frame_size : ℕ → ℕ → ℕ
@@ -64,9 +82,9 @@ frame_size second third =
 
 -- a header of layer 3 has this second and third byte
 pub record IsLayer3 (second third : ℕ) : Type 0 where
-  pub sync : bit_and second 0xe0 ≡ 0xe0
-  pub version : version_of second ≢ 0x08
-  pub layer : layer_of second ≡ 0x02
+  pub sync : bit_and second sync_bits ≡ sync_bits
+  pub version : version_of second ≢ reserved_version
+  pub layer : layer_of second ≡ layer_3
   pub bit_rate_from : 1 ≤ bit_rate_index third
   pub bit_rate_to : bit_rate_index third ≤ 14
   pub sample_rate_to : sample_rate_index third ≤ 2
@@ -74,7 +92,7 @@ pub record IsLayer3 (second third : ℕ) : Type 0 where
 -- a header of layer 3 stands at the place, four bytes inside the window
 pub record IsFrameHeader (place : ℕ) (window : List ℕ) : Type 0 where
   pub inside : place + 4 ≤ length window
-  pub sync : slice_index window place ≡ 0xff
+  pub sync : slice_index window place ≡ sync_byte
   pub layer_3 : IsLayer3 (slice_index window (place + 1)) (slice_index window (place + 2))
 
 -- the size of the frame at the window's beginning
@@ -89,9 +107,9 @@ pub record IsMpegFrame (window : List ℕ) : Type 0 where
 -- `IsLayer3` as a test
 abbrev pub is_layer_3 : ℕ → ℕ → Bool
 is_layer_3 second third =
-    bit_and second 0xe0 == 0xe0
-    && (not (version_of second == 0x08)
-    && (layer_of second == 0x02
+    bit_and second sync_bits == sync_bits
+    && (not (version_of second == reserved_version)
+    && (layer_of second == layer_3
     && (nat_le 1 (bit_rate_index third)
     && (nat_le (bit_rate_index third) 14
     && nat_le (sample_rate_index third) 2))))
@@ -100,7 +118,7 @@ is_layer_3 second third =
 abbrev pub is_frame_header : ℕ → List ℕ → Bool
 is_frame_header place window =
     nat_le (place + 4) (length window)
-    && (slice_index window place == 0xff
+    && (slice_index window place == sync_byte
     && is_layer_3 (slice_index window (place + 1)) (slice_index window (place + 2)))
 
 -- `IsMpegFrame` as a test

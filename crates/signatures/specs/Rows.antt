@@ -12,7 +12,7 @@ use Rattle.signatures.specs.Mpeg.{is_mpeg_window}
 
 -- bytes of a mask: those that must be as the pattern has them, and those that are free
 abbrev pub exact : ℕ → List ℕ
-exact n = replicate n 0xff
+exact n = replicate n 0xFF
 
 abbrev pub free : ℕ → List ℕ
 free n = replicate n 0x00
@@ -25,17 +25,36 @@ shows bytes mask window = is_match bytes mask false window
 abbrev pub first_match : {K : Type 0} → List ((List ℕ → Bool) × K) → List ℕ → Option K
 first_match rows window = option_map (λ row. row.1) (find (λ row. row.0 window) rows)
 
+-- the patterns that aren't text alone, in the bytes of the standard's tables
+abbrev pub icon_bytes : List ℕ
+icon_bytes = 0x00 ∷ 0x00 ∷ 0x01 ∷ 0x00 ∷ []
+
+abbrev pub cursor_bytes : List ℕ
+cursor_bytes = 0x00 ∷ 0x00 ∷ 0x02 ∷ 0x00 ∷ []
+
+abbrev pub png_bytes : List ℕ
+png_bytes = 0x89 ∷ 0x50 ∷ 0x4E ∷ 0x47 ∷ 0x0D ∷ 0x0A ∷ 0x1A ∷ 0x0A ∷ []
+
+abbrev pub jpeg_bytes : List ℕ
+jpeg_bytes = 0xFF ∷ 0xD8 ∷ 0xFF ∷ []
+
+abbrev pub ogg_bytes : List ℕ
+ogg_bytes = codes "OggS" ++ (0x00 ∷ [])
+
+abbrev pub midi_bytes : List ℕ
+midi_bytes = codes "MThd" ++ (0x00 ∷ 0x00 ∷ 0x00 ∷ 0x06 ∷ [])
+
 -- WHATWG MIME Sniffing 6.1
 unfoldable pub image_rows : List ((List ℕ → Bool) × ImageType)
 image_rows =
-    (shows (0x00 ∷ 0x00 ∷ 0x01 ∷ 0x00 ∷ []) (exact 4), image.Icon)
-    ∷ (shows (0x00 ∷ 0x00 ∷ 0x02 ∷ 0x00 ∷ []) (exact 4), image.Cursor)
+    (shows icon_bytes (exact 4), image.Icon)
+    ∷ (shows cursor_bytes (exact 4), image.Cursor)
     ∷ (shows (codes "BM") (exact 2), image.Bmp)
     ∷ (shows (codes "GIF87a") (exact 6), image.Gif87)
     ∷ (shows (codes "GIF89a") (exact 6), image.Gif89)
     ∷ (shows (codes "RIFF" ++ (free 4 ++ codes "WEBPVP")) (exact 4 ++ (free 4 ++ exact 6)), image.Webp)
-    ∷ (shows (0x89 ∷ 0x50 ∷ 0x4e ∷ 0x47 ∷ 0x0d ∷ 0x0a ∷ 0x1a ∷ 0x0a ∷ []) (exact 8), image.Png)
-    ∷ (shows (0xff ∷ 0xd8 ∷ 0xff ∷ []) (exact 3), image.Jpeg)
+    ∷ (shows png_bytes (exact 8), image.Png)
+    ∷ (shows jpeg_bytes (exact 3), image.Jpeg)
     ∷ []
 
 -- WHATWG MIME Sniffing 6.2, and the signatures of 6.2.1 to 6.2.3 behind its table
@@ -43,8 +62,8 @@ unfoldable pub media_rows : List ((List ℕ → Bool) × MediaType)
 media_rows =
     (shows (codes "FORM" ++ (free 4 ++ codes "AIFF")) (exact 4 ++ (free 4 ++ exact 4)), media.Aiff)
     ∷ (shows (codes "ID3") (exact 3), media.MpegTag)
-    ∷ (shows (codes "OggS" ++ (0x00 ∷ [])) (exact 5), media.Ogg)
-    ∷ (shows (codes "MThd" ++ (0x00 ∷ 0x00 ∷ 0x00 ∷ 0x06 ∷ [])) (exact 8), media.Midi)
+    ∷ (shows ogg_bytes (exact 5), media.Ogg)
+    ∷ (shows midi_bytes (exact 8), media.Midi)
     ∷ (shows (codes "RIFF" ++ (free 4 ++ codes "AVI ")) (exact 4 ++ (free 4 ++ exact 4)), media.Avi)
     ∷ (shows (codes "RIFF" ++ (free 4 ++ codes "WAVE")) (exact 4 ++ (free 4 ++ exact 4)), media.Wave)
     ∷ (is_mp4_window, media.Mp4)

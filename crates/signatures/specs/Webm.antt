@@ -1,14 +1,15 @@
 -- The signature of WebM (WHATWG MIME Sniffing 6.2.2): an EBML header whose DocType is `webm`. The
--- length that stands before the DocType is only passed over, and bytes 00 before it are ignored.
+-- length that stands before the DocType is only passed over, and NUL bytes before it are ignored.
 use Rattle.std.specs.Prelude.{◌≡◌, ◌≢◌, ℕ, ◌+◌, ◌<◌, ◌≤◌, Bool, false, not, ◌&&◌, ◌==◌, nat_le, nat_eq, List, [], ◌∷◌, ◌++◌, drop, replicate, codes, IsTrue, Option, Some, None, slice_get}
 use Rattle.std.specs.List.{starts_with}
 use Rattle.std.specs.Int.{w8, leading_zeros}
+use Rattle.orb_bytes.specs.Ascii.{nul}
 use Rattle.orb_bytes.specs.Trim.{without_leading}
 use Rattle.signatures.specs.Patterns.{stands_at, some_below}
 
 -- the bytes that begin an EBML header
 abbrev pub ebml_header : List ℕ
-ebml_header = 0x1a ∷ 0x45 ∷ 0xdf ∷ 0xa3 ∷ []
+ebml_header = 0x1A ∷ 0x45 ∷ 0xDF ∷ 0xA3 ∷ []
 
 -- the name of the element DocType
 abbrev pub doc_type : List ℕ
@@ -18,15 +19,15 @@ doc_type = 0x42 ∷ 0x82 ∷ []
 abbrev pub number_width : ℕ → ℕ
 number_width first = leading_zeros w8 first + 1
 
--- the text begins with a DocType `webm`: the element's name, a number that doesn't begin with 00,
--- bytes 00, and `webm`
+-- the text begins with a DocType `webm`: the element's name, a number that doesn't begin with NUL,
+-- NUL bytes, and `webm`
 pub record IsWebmDocType (text : List ℕ) : Type 0 where
   pub element : IsTrue (stands_at doc_type 0 text)
   pub first : ℕ
   pub number : slice_get text 2 ≡ Some first
-  pub nonzero : first ≢ 0
+  pub nonzero : first ≢ nul
   pub zeros : ℕ
-  pub name : IsTrue (stands_at (replicate zeros 0 ++ codes "webm") (2 + number_width first) text)
+  pub name : IsTrue (stands_at (replicate zeros nul ++ codes "webm") (2 + number_width first) text)
 
 -- the window matches the signature: a DocType `webm` stands in it at a place from 4 and below 38
 pub record IsWebm (window : List ℕ) : Type 0 where
@@ -36,15 +37,15 @@ pub record IsWebm (window : List ℕ) : Type 0 where
   pub below : place < 38
   pub named : IsWebmDocType (drop place window)
 
--- behind bytes 00 the text begins with `webm`
+-- behind NUL bytes the text begins with `webm`
 abbrev pub begins_padded : List ℕ → Bool
-begins_padded text = starts_with nat_eq (without_leading (λ b. b == 0) text) (codes "webm")
+begins_padded text = starts_with nat_eq (without_leading (λ b. b == nul) text) (codes "webm")
 
 -- behind the name and the number with that first byte the text is `webm`
 abbrev pub is_named_behind : Option ℕ → List ℕ → Bool
 is_named_behind None text = false
 is_named_behind (Some first) text =
-    not (first == 0) && begins_padded (drop (2 + number_width first) text)
+    not (first == nul) && begins_padded (drop (2 + number_width first) text)
 
 -- `IsWebmDocType` as a test
 abbrev pub is_webm_doc_type : List ℕ → Bool

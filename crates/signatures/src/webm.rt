@@ -1,5 +1,6 @@
 //! WebM (WHATWG MIME Sniffing 6.2.2).
 ghost use Rattle.std.specs.Prelude.{◌≡◌, ◌↔◌, IsTrue, ◌==◌};
+ghost use Rattle.orb_bytes.specs.Ascii.{nul};
 ghost use Rattle.orb_bytes.specs.Trim.{without_leading};
 ghost use Rattle.signatures.specs.Patterns.{some_below};
 ghost use Rattle.signatures.specs.Webm.{IsWebm, is_webm_window, is_webm_doc_type, is_webm_place};
@@ -41,7 +42,7 @@ fn is_doc_type(text: &[u8]) -> bool
 
 /// The text without its leading bytes 00.
 fn behind_zeros(text: &[u8]) -> &[u8]
-    ensures { result.now ≡ without_leading (λ b. b == 0) text.now }
+    ensures { result.now ≡ without_leading (λ b. b == nul) text.now }
 {
     let mut rest = text;
     'leading: while let [0, others @ ..] = rest {
