@@ -5,17 +5,16 @@ use Rattle.std.specs.Option.{option_and_then}
 use Rattle.std.proofs.lemmas.Bool.{cases_Bool, and_parts, eqb-true, not-true}
 use Rattle.orb_bytes.specs.Bytes.{AllPass, is_http_whitespace}
 use Rattle.orb_bytes.specs.Trim.{without_leading}
-use Rattle.orb_bytes.proofs.TrimLemmas.{without_leading-stop}
+use Rattle.orb_bytes.proofs.TrimLemmas.{without_leading-stop, without_leading-append, leading_of}
 use Rattle.corb_sniffers.specs.Json.{SniffsJson, NameUnit, Plain, Escaped, IsUnit, AreUnits, units_text, is_text_byte}
 use Rattle.orb_bytes.specs.Ascii.{quotation_mark, colon, reverse_solidus, left_curly_bracket}
 use Rattle.corb_sniffers.specs.JsonReading.{behind_first, behind_byte, behind_name, behind_colon}
-use Rattle.corb_sniffers.proofs.SpaceLemmas.{leading_cut, leading_passed}
 
 -- white space, the byte, and the rest
 pub byte_cut : (byte : ℕ) (text rest : List ℕ) → behind_byte byte text ≡ Some rest
     → (spaces : List ℕ) × AllPass is_http_whitespace spaces × (text ≡ spaces ++ (byte ∷ rest))
 byte_cut byte text rest is =
-    let cut = leading_cut is_http_whitespace text in
+    let cut = leading_of is_http_whitespace text in
     (cut.0, cut.1, cut.2 ∙ ap (λ t. cut.0 ++ t) (first (without_leading is_http_whitespace text) is)) where
       first : (t : List ℕ) → behind_first byte t ≡ Some rest → t ≡ byte ∷ rest
       first [] lie = absurd (cc)
@@ -27,7 +26,7 @@ byte_cut byte text rest is =
 pub byte_read : (byte : ℕ) (spaces rest : List ℕ) → AllPass is_http_whitespace spaces → is_http_whitespace byte ≡ false
     → behind_byte byte (spaces ++ (byte ∷ rest)) ≡ Some rest
 byte_read byte spaces rest all outside =
-    rw (leading_passed is_http_whitespace spaces (byte ∷ rest) all, without_leading-stop is_http_whitespace byte rest outside)
+    rw (without_leading-append is_http_whitespace spaces (byte ∷ rest) all, without_leading-stop is_http_whitespace byte rest outside)
     (rw (eq-eqb byte byte refl) refl)
 
 -- units, the quote, and the rest

@@ -2,8 +2,7 @@
 ghost use Rattle.std.specs.Prelude.{IsTrue, ◌↔◌};
 ghost use Rattle.corb_sniffers.specs.Breakers.{HasBreaker, BeginsWithBreaker};
 
-use crate::spaces::after_spaces;
-use orb_bytes::{Row, first_row};
+use orb_bytes::{Row, first_row, trim_whitespace_start};
 
 static BREAKERS: [Row; 5] = [
     Row {
@@ -32,7 +31,7 @@ static BREAKERS: [Row; 5] = [
 pub fn has_breaker(window: &[u8]) -> bool
     ensures { IsTrue result ↔ HasBreaker window.now }
 {
-    begins_with_breaker(after_spaces(window))
+    begins_with_breaker(trim_whitespace_start(window))
 }
 
 /// Whether the text begins with a parser breaker.

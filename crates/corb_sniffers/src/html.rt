@@ -5,9 +5,8 @@ ghost use Rattle.orb_bytes.specs.Rows.{are_rows};
 ghost use Rattle.corb_sniffers.specs.Html.{SniffsHtml, BeginsWithTag};
 ghost use Rattle.corb_sniffers.specs.HtmlReading.{begins_with_ended, IsNoSpace, IsNoComment, IsBehindComment, SniffsAlike};
 
-use crate::spaces::after_spaces;
 use memchr::memmem;
-use orb_bytes::{Row, Walk, is_tag_end};
+use orb_bytes::{Row, Walk, is_tag_end, trim_whitespace_start};
 
 /// The tags that confirm HTML (WHATWG MIME Sniffing 7.1, without the comment). A mask of DF takes a letter in either case.
 static TAGS: [Row; 16] = [
@@ -90,9 +89,9 @@ fn after_pieces(window: &[u8]) -> &[u8]
     ensures no_space { IsNoSpace result.now }
     ensures no_comment { IsNoComment result.now }
 {
-    let mut rest = after_spaces(window);
+    let mut rest = trim_whitespace_start(window);
     'comments: while let Some(after) = after_comment(rest) {
-        rest = after_spaces(after);
+        rest = trim_whitespace_start(after);
     }
     rest
 }

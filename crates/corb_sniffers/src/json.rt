@@ -3,7 +3,7 @@ ghost use Rattle.std.specs.Prelude.{◌≡◌, IsTrue, ◌↔◌, MatchOption, S
 ghost use Rattle.corb_sniffers.specs.Json.{SniffsJson};
 ghost use Rattle.corb_sniffers.specs.JsonReading.{behind_byte, behind_name, behind_colon};
 
-use crate::spaces::after_json_spaces;
+use orb_bytes::trim_http_ws_start;
 
 /// Whether the window begins as an object does: `{`, a name in quotes, and `:`, with white space where JSON has it.
 pub fn sniffs_json(window: &[u8]) -> bool
@@ -22,11 +22,11 @@ fn after_colon(window: &[u8]) -> Option<&[u8]>
     after_byte(b':', member)
 }
 
-/// What follows white space and the byte; `None` exactly where something else stands there.
+/// What follows white space, which JSON has as HTTP has it (RFC 8259 2), and the byte; `None` exactly where something else stands there.
 fn after_byte(byte: u8, text: &[u8]) -> Option<&[u8]>
     ensures { MatchOption result (behind_byte byte text.now ≡ None) (λ rest. behind_byte byte text.now ≡ Some rest.now) }
 {
-    match after_json_spaces(text) {
+    match trim_http_ws_start(text) {
         [first, rest @ ..] if *first == byte => Some(rest),
         _ => None,
     }

@@ -9,7 +9,6 @@ mod breakers;
 mod html;
 mod json;
 mod laws;
-mod spaces;
 #[cfg(test)]
 mod tests;
 mod xml;

@@ -2,11 +2,11 @@
 ghost use Rattle.std.specs.Prelude.{IsTrue, ◌↔◌};
 ghost use Rattle.corb_sniffers.specs.Xml.{SniffsXml};
 
-use crate::spaces::after_spaces;
+use orb_bytes::trim_whitespace_start;
 
 /// Whether the window begins with `<?xml` behind its leading white space.
 pub fn sniffs_xml(window: &[u8]) -> bool
     ensures { IsTrue result ↔ SniffsXml window.now }
 {
-    after_spaces(window).starts_with(b"<?xml")
+    trim_whitespace_start(window).starts_with(b"<?xml")
 }

@@ -7,10 +7,11 @@ use Rattle.std.proofs.lemmas.List.{map-append}
 use Rattle.std.proofs.lemmas.List.Folds.{list_all-append}
 use Rattle.orb_bytes.specs.Bytes.{is_http_whitespace}
 use Rattle.orb_bytes.specs.Trim.{without_leading}
+use Rattle.orb_bytes.proofs.TrimLemmas.{leading_of}
 use Rattle.mime_types.specs.Spans.{begins_outside, Spans}
 use Rattle.mime_types.specs.Mime.{is_empty, QuotedUnit, itself, print_unit, is_unit, unit_value, Close, by_quote, by_end, by_backslash, print_close, is_at_end, Assigned, nothing, quoted, plain, is_assigned, is_last, is_no_semicolon, is_name_byte, Segment, is_segment, print_segment, print_segments, are_segments}
 use Rattle.mime_types.specs.Reading.{ReadsQuoted, ReadsAssigned, ReadsSegment}
-use Rattle.mime_types.proofs.TrailingLemmas.{leading_of, without_leading_begins}
+use Rattle.mime_types.proofs.TrailingLemmas.{without_leading_begins}
 use Rattle.mime_types.proofs.CutLemmas.{is_semicolon}
 
 -- the units that are read of a text, their bytes, and the rest

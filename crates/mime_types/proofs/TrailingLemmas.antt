@@ -6,7 +6,7 @@ use Rattle.std.proofs.lemmas.List.Folds.{list_all-append}
 use Rattle.std.proofs.lemmas.Bool.{and_parts, and_from}
 use Rattle.orb_bytes.specs.Trim.{without_leading, without_trailing}
 use Rattle.mime_types.specs.Spans.{begins_outside}
-use Rattle.orb_bytes.proofs.TrimLemmas.{without_trailing-more, without_trailing-outside}
+use Rattle.orb_bytes.proofs.TrimLemmas.{leading_of, without_trailing-more, without_trailing-outside}
 use Rattle.mime_types.proofs.BoolLemmas.{false_from_not}
 
 pub list_all_at : (test : ℕ → Bool) (text : List ℕ) (k d : ℕ) → k < length text → list_all test text ≡ true
@@ -33,17 +33,6 @@ without_trailing-append test text (b ∷ trailing) are =
     ap (without_trailing test) (sym (append_assoc text (b ∷ []) trailing))
     ∙ without_trailing-append test (text ++ b ∷ []) trailing parts.1
     ∙ without_trailing-more test text b parts.0
-
--- what trimming takes from the front is of the class
-pub leading_of : (test : ℕ → Bool) (text : List ℕ)
-    → (leading : List ℕ) × (list_all test leading ≡ true) × (text ≡ leading ++ without_leading test text)
-leading_of test [] = ([], refl, refl)
-leading_of test (b ∷ text) =
-    elim (test b) as (λ v. test b ≡ v → (leading : List ℕ) × (list_all test leading ≡ true) × (b ∷ text ≡ leading ++ without_leading test (b ∷ text))) [
-      | true ↦ λ inside. let more = leading_of test text in
-          (b ∷ more.0, and_from (test b) (list_all test more.0) inside more.1, rw inside (ap (λ rest. b ∷ rest) more.2))
-      | false ↦ λ outside. ([], refl, rw outside refl)
-    ] refl
 
 -- what is left begins with none of it
 pub without_leading_begins : (test : ℕ → Bool) (text : List ℕ) → begins_outside test (without_leading test text) ≡ true

@@ -1,5 +1,7 @@
 -- How trimming goes a byte at a time.
 use Rattle.std.proofs.Common.{◌≡◌, ℕ, ◌-◌, ◌≤◌, Bool, true, false, List, [], ◌∷◌, ◌++◌, get_or, take, reverse, refl, sym, ap, ◌∙◌, length, ◌+◌, arith}
+use Rattle.std.specs.List.{list_all}
+use Rattle.std.proofs.lemmas.Bool.{and_parts, and_from}
 use Rattle.std.proofs.lemmas.List.{reverse-append, reverse-reverse, take_more, take_all}
 use Rattle.orb_bytes.specs.Trim.{without_leading, without_trailing}
 
@@ -10,6 +12,25 @@ without_leading-more test b text inside = rw inside refl
 pub without_leading-stop : (test : ℕ → Bool) (b : ℕ) (text : List ℕ) → test b ≡ false
     → without_leading test (b ∷ text) ≡ b ∷ text
 without_leading-stop test b text outside = rw outside refl
+
+-- leading bytes of the class are lost
+pub without_leading-append : (test : ℕ → Bool) (leading rest : List ℕ) → list_all test leading ≡ true
+    → without_leading test (leading ++ rest) ≡ without_leading test rest
+without_leading-append test [] rest all = refl
+without_leading-append test (b ∷ leading) rest all =
+    let parts = and_parts (test b) (list_all test leading) all in
+    without_leading-more test b (leading ++ rest) parts.0 ∙ without_leading-append test leading rest parts.1
+
+-- a text as its leading bytes of the class, and the rest
+pub leading_of : (test : ℕ → Bool) (text : List ℕ)
+    → (leading : List ℕ) × (list_all test leading ≡ true) × (text ≡ leading ++ without_leading test text)
+leading_of test [] = ([], refl, refl)
+leading_of test (b ∷ text) =
+    elim (test b) as (λ v. test b ≡ v → (leading : List ℕ) × (list_all test leading ≡ true) × (b ∷ text ≡ leading ++ without_leading test (b ∷ text))) [
+      | true ↦ λ inside. let more = leading_of test text in
+          (b ∷ more.0, and_from (test b) (list_all test more.0) inside more.1, rw inside (ap (λ rest. b ∷ rest) more.2))
+      | false ↦ λ outside. ([], refl, rw outside refl)
+    ] refl
 
 -- a text whose first byte is outside the class stays
 pub without_leading-outside : (test : ℕ → Bool) (text : List ℕ) → 1 ≤ length text

@@ -28,5 +28,8 @@ pub use letters::{eq_ignore_case, lower};
 pub use numbers::{decimal, read_decimal};
 pub use rows::{Row, begins_masked, first_row};
 pub use slices::{first_bytes, last_bytes};
-pub use trimming::{trim_http_ws, trim_http_ws_end, trim_http_ws_start, trim_tab_or_space};
+pub use trimming::{
+    trim_http_ws, trim_http_ws_end, trim_http_ws_start, trim_start, trim_tab_or_space,
+    trim_whitespace_start,
+};
 pub use walks::Walk;

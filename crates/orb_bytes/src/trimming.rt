@@ -1,11 +1,14 @@
 //! Texts without the white space at their ends.
 ghost use Rattle.std.specs.Prelude.{◌≡◌};
-ghost use Rattle.orb_bytes.specs.Bytes.{is_one_of, is_http_whitespace};
+ghost use Rattle.orb_bytes.specs.Bytes.{is_one_of, is_http_whitespace, is_whitespace_byte};
 ghost use Rattle.orb_bytes.specs.Bytes.{is_tab_or_space as is_tab_or_space_byte};
 ghost use Rattle.orb_bytes.specs.Trim.{trimmed, without_leading, without_trailing};
 
 /// HTTP whitespace (WHATWG Fetch 2.2).
 const HTTP_WS: &[u8] = b"\t\n\r ";
+
+/// So many equal bytes are passed at once: pages are indented by spaces.
+const RUN: usize = 16;
 
 /// The text without HTTP whitespace at its two ends (WHATWG Fetch 2.2).
 pub fn trim_http_ws(text: &[u8]) -> &[u8]
@@ -14,14 +17,14 @@ pub fn trim_http_ws(text: &[u8]) -> &[u8]
     trim_of(text, HTTP_WS)
 }
 
-/// The text without HTTP whitespace at its front.
+/// The text without its leading HTTP whitespace.
 pub fn trim_http_ws_start(text: &[u8]) -> &[u8]
     ensures { result.now ≡ without_leading is_http_whitespace text.now }
 {
     trim_start(text, HTTP_WS)
 }
 
-/// The text without HTTP whitespace at its end.
+/// The text without its trailing HTTP whitespace.
 pub fn trim_http_ws_end(text: &[u8]) -> &[u8]
     ensures { result.now ≡ without_trailing is_http_whitespace text.now }
 {
@@ -35,23 +38,34 @@ pub fn trim_tab_or_space(text: &[u8]) -> &[u8]
     trim_of(text, b"\t ")
 }
 
-/// The text without bytes of the class at its two ends.
-fn trim_of<'t>(text: &'t [u8], class: &[u8]) -> &'t [u8]
-    ensures { result.now ≡ trimmed (is_one_of class.now) text.now }
+/// The text without its leading whitespace bytes (WHATWG MIME Sniffing 3).
+pub fn trim_whitespace_start(text: &[u8]) -> &[u8]
+    ensures { result.now ≡ without_leading is_whitespace_byte text.now }
 {
-    trim_end(trim_start(text, class), class)
+    trim_start(text, b"\t\n\x0c\r ")
 }
 
-fn trim_start<'t>(text: &'t [u8], class: &[u8]) -> &'t [u8]
+/// The text without its leading bytes of the class.
+pub fn trim_start<'t>(text: &'t [u8], class: &[u8]) -> &'t [u8]
     ensures { result.now ≡ without_leading (is_one_of class.now) text.now }
 {
     let mut rest = text;
     'leading: while let [first, others @ ..] = rest
         && class.contains(first)
     {
-        rest = others;
+        rest = match rest.strip_prefix(&[*first; RUN]) {
+            Some(after) => after,
+            None => others,
+        };
     }
     rest
+}
+
+/// The text without bytes of the class at its two ends.
+fn trim_of<'t>(text: &'t [u8], class: &[u8]) -> &'t [u8]
+    ensures { result.now ≡ trimmed (is_one_of class.now) text.now }
+{
+    trim_end(trim_start(text, class), class)
 }
 
 fn trim_end<'t>(text: &'t [u8], class: &[u8]) -> &'t [u8]

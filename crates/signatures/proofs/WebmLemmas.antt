@@ -1,8 +1,10 @@
 -- The signature of WebM and its test.
-use Rattle.std.proofs.Common.{◌≡◌, ◌≢◌, ℕ, zero, suc, ◌+◌, ◌≤◌, Bool, true, not, ◌==◌, nat_le, nat_eq, List, [], ◌∷◌, ◌++◌, drop, replicate, codes, Option, Some, None, slice_get, Decides, refl, sym, ap, ◌∙◌, inl, inr, arith}
+use Rattle.std.proofs.Common.{◌≡◌, ◌≢◌, ℕ, zero, suc, ◌+◌, ◌≤◌, Bool, true, false, not, ◌==◌, nat_le, nat_eq, List, [], ◌∷◌, ◌++◌, drop, replicate, codes, Option, Some, None, slice_get, Decides, refl, sym, ap, ◌∙◌, inl, inr, arith}
 use Rattle.std.specs.List.{starts_with}
 use Rattle.std.proofs.lemmas.Bool.{and_parts, and_from, ne_eqb}
 use Rattle.std.proofs.lemmas.Bool.Decides.{eqb_tells, Decides-eqb, Decides-and, Decides-like, Decides-not}
+use Rattle.orb_bytes.specs.Ascii.{nul}
+use Rattle.orb_bytes.specs.Bytes.{is_one_of}
 use Rattle.orb_bytes.proofs.TrimLemmas.{without_leading-more, without_leading-stop}
 use Rattle.signatures.specs.Patterns.{stands_at, some_below}
 use Rattle.signatures.specs.Webm.{IsWebm, IsWebmDocType, ebml_header, doc_type, number_width, begins_padded, is_named_behind, is_webm_doc_type, is_webm_place, is_webm_window}
@@ -12,30 +14,36 @@ use Rattle.signatures.proofs.Mp4Lemmas.{leb-Decides}
 abbrev begins : List ℕ → List ℕ → Bool
 begins text name = starts_with nat_eq text name
 
-abbrev is_zero : ℕ → Bool
-is_zero b = b == 0
+abbrev is_nul : ℕ → Bool
+is_nul b = is_one_of (nul ∷ []) b
 
--- bytes 00 before `webm`, at their number or skipped
+one_nul : (b : ℕ) → b ≡ nul → is_nul b ≡ true
+one_nul b same = ap is_nul same
+
+no_nul : (b : ℕ) → b ≢ nul → is_nul b ≡ false
+no_nul b other = rw (ne_eqb nul b (λ same. other (sym same))) refl
+
+-- NUL bytes before `webm`, at their number or skipped
 padded_to : (text : List ℕ) → begins_padded text ≡ true
     → (zeros : ℕ) × (begins text (replicate zeros 0 ++ codes "webm") ≡ true)
 padded_to [] is = absurd (cc)
 padded_to (b ∷ text) is =
     elim (eqb_tells b 0) [
       | inl here ↦
-          let more = padded_to text (ap (λ t. begins t (codes "webm")) (sym (without_leading-more is_zero b text here.0)) ∙ is) in
+          let more = padded_to text (ap (λ t. begins t (codes "webm")) (sym (without_leading-more is_nul b text (one_nul b here.1))) ∙ is) in
           (suc more.0, and_from (0 == b) (begins text (replicate more.0 0 ++ codes "webm")) ((Decides-eqb 0 b).1 (sym here.1)) more.1)
-      | inr other ↦ (0, ap (λ t. begins t (codes "webm")) (sym (without_leading-stop is_zero b text other.0)) ∙ is)
+      | inr other ↦ (0, ap (λ t. begins t (codes "webm")) (sym (without_leading-stop is_nul b text (no_nul b other.1))) ∙ is)
     ]
 
 padded_from : (count : ℕ) (text : List ℕ) → begins text (replicate count 0 ++ codes "webm") ≡ true → begins_padded text ≡ true
 padded_from zero [] is = absurd (cc)
 padded_from zero (b ∷ text) is =
     let first = (Decides-eqb 119 b).0 (and_parts (119 == b) (begins text (codes "ebm")) is).0 in
-    ap (λ t. begins t (codes "webm")) (without_leading-stop is_zero b text (ne_eqb b 0 (λ none. absurd (omega arith)))) ∙ is
+    ap (λ t. begins t (codes "webm")) (without_leading-stop is_nul b text (no_nul b (λ none. absurd (omega arith)))) ∙ is
 padded_from (suc count) [] is = absurd (cc)
 padded_from (suc count) (b ∷ text) is =
     let parts = and_parts (0 == b) (begins text (replicate count 0 ++ codes "webm")) is in
-    ap (λ t. begins t (codes "webm")) (without_leading-more is_zero b text ((Decides-eqb b 0).1 (sym ((Decides-eqb 0 b).0 parts.0))))
+    ap (λ t. begins t (codes "webm")) (without_leading-more is_nul b text (one_nul b (sym ((Decides-eqb 0 b).0 parts.0))))
     ∙ padded_from count text parts.1
 
 abbrev Named : Option ℕ → List ℕ → Type 0

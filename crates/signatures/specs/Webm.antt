@@ -4,6 +4,7 @@ use Rattle.std.specs.Prelude.{◌≡◌, ◌≢◌, ℕ, ◌+◌, ◌<◌, ◌�
 use Rattle.std.specs.List.{starts_with}
 use Rattle.std.specs.Int.{w8, leading_zeros}
 use Rattle.orb_bytes.specs.Ascii.{nul}
+use Rattle.orb_bytes.specs.Bytes.{is_one_of}
 use Rattle.orb_bytes.specs.Trim.{without_leading}
 use Rattle.signatures.specs.Patterns.{stands_at, some_below}
 
@@ -39,7 +40,7 @@ pub record IsWebm (window : List ℕ) : Type 0 where
 
 -- behind NUL bytes the text begins with `webm`
 abbrev pub begins_padded : List ℕ → Bool
-begins_padded text = starts_with nat_eq (without_leading (λ b. b == nul) text) (codes "webm")
+begins_padded text = starts_with nat_eq (without_leading (is_one_of (nul ∷ [])) text) (codes "webm")
 
 -- behind the name and the number with that first byte the text is `webm`
 abbrev pub is_named_behind : Option ℕ → List ℕ → Bool

@@ -1,10 +1,8 @@
 //! Patterns of bytes under a mask (WHATWG MIME Sniffing 6).
 ghost use Rattle.std.specs.Prelude.{◌≡◌, length, drop};
-ghost use Rattle.orb_bytes.specs.Bytes.{is_whitespace_byte};
-ghost use Rattle.orb_bytes.specs.Trim.{without_leading};
 ghost use Rattle.signatures.specs.Patterns.{is_match, stands_at as text_stands_at};
 
-use orb_bytes::{begins_masked, is_space_byte};
+use orb_bytes::{begins_masked, trim_whitespace_start};
 
 /// Bytes that a window begins with, each under a mask: a bit that the mask has not is free.
 #[derive(Clone, Copy, Debug)]
@@ -26,25 +24,12 @@ impl Pattern {
         ensures { result ≡ is_match self.now.bytes.now self.now.mask.now self.now.skip_space window.now }
     {
         let text = if self.skip_space {
-            behind_space(window)
+            trim_whitespace_start(window)
         } else {
             window
         };
         begins_masked(self.bytes, self.mask, text)
     }
-}
-
-/// The text without its leading whitespace bytes.
-fn behind_space(text: &[u8]) -> &[u8]
-    ensures { result.now ≡ without_leading is_whitespace_byte text.now }
-{
-    let mut rest = text;
-    'leading: while let [first, others @ ..] = rest
-        && is_space_byte(*first)
-    {
-        rest = others;
-    }
-    rest
 }
 
 /// The window from the place on; empty where the place is past its end.

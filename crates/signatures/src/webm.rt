@@ -1,11 +1,10 @@
 //! WebM (WHATWG MIME Sniffing 6.2.2).
 ghost use Rattle.std.specs.Prelude.{◌≡◌, ◌↔◌, IsTrue, ◌==◌};
-ghost use Rattle.orb_bytes.specs.Ascii.{nul};
-ghost use Rattle.orb_bytes.specs.Trim.{without_leading};
 ghost use Rattle.signatures.specs.Patterns.{some_below};
 ghost use Rattle.signatures.specs.Webm.{IsWebm, is_webm_window, is_webm_doc_type, is_webm_place};
 
 use crate::patterns::{behind, stands_at};
+use orb_bytes::trim_start;
 
 /// Whether the window begins with an EBML header and names the DocType `webm` soon behind it.
 #[tactic(auto, unfolding(crate::specs::Webm::is_webm_window))]
@@ -34,21 +33,10 @@ fn is_doc_type(text: &[u8]) -> bool
 {
     match text {
         [0x42, 0x82, first, rest @ ..] if *first != 0 => {
-            behind_zeros(behind(first.leading_zeros() as usize, rest)).starts_with(b"webm")
+            trim_start(behind(first.leading_zeros() as usize, rest), b"\0").starts_with(b"webm")
         }
         _ => false,
     }
-}
-
-/// The text without its leading bytes 00.
-fn behind_zeros(text: &[u8]) -> &[u8]
-    ensures { result.now ≡ without_leading (λ b. b == nul) text.now }
-{
-    let mut rest = text;
-    'leading: while let [0, others @ ..] = rest {
-        rest = others;
-    }
-    rest
 }
 
 #[cfg(test)]
