@@ -1,6 +1,5 @@
 pub mod FieldLemmas
 pub mod JoinLemmas
-pub mod UnitLemmas
 pub mod PartLemmas
 pub mod QuestionLemmas
 pub mod ExtractLemmas

@@ -3,12 +3,12 @@ use Rattle.std.proofs.Common.{◌≡◌, ℕ, zero, suc, ◌+◌, ◌-◌, ◌�
 use Rattle.std.specs.List.{list_all, flat_map}
 use Rattle.std.proofs.lemmas.Bool.{and_parts, and_from, eqb-true}
 use Rattle.std.proofs.lemmas.Bool.Decides.{eqb_tells}
-use Rattle.orb_bytes.specs.Bytes.{is_tab_or_space}
+use Rattle.orb_bytes.specs.Bytes.{is_empty, is_tab_or_space}
 use Rattle.orb_bytes.specs.Trim.{trimmed}
-use Rattle.mime_types.specs.Mime.{is_empty, QuotedUnit, itself, escaped, print_unit, is_unit, by_quote, by_end, by_backslash}
 use Rattle.std.proofs.Math.Seq.{drop-cons}
 use Rattle.std.proofs.lemmas.List.{take_more, take_all}
-use Rattle.header_values.proofs.UnitLemmas.{stops_units, units_of}
+use Rattle.orb_bytes.specs.Quoted.{QuotedUnit, qdtext, quoted_pair, unit_text, is_unit, by_quote, by_end, by_backslash}
+use Rattle.orb_bytes.proofs.QuotedLemmas.{stops_units, units_of}
 use Rattle.header_values.specs.declared.split.Place.{Place}
 use Rattle.header_values.specs.declared.split.Place.TheVariants.{Outside, Inside}
 use Rattle.header_values.specs.Parts.{Piece, bare, string, print_piece, is_piece, is_last, print_part, is_part, is_closed, print_parts, are_parts, IsCut, part_text}
@@ -34,20 +34,20 @@ plain_unit false true is = absurd (cc)
 plain_unit false false is = (refl, refl)
 
 cut_from-unit : (u : QuotedUnit) (text : List ℕ) → is_unit u ≡ true
-    → cut_from Inside (print_unit u ++ text) ≡ put_first (print_unit u) (cut_from Inside text)
-cut_from-unit (itself b) text is =
+    → cut_from Inside (unit_text u ++ text) ≡ put_first (unit_text u) (cut_from Inside text)
+cut_from-unit (qdtext b) text is =
     let plain = plain_unit (nat_eq b 34) (nat_eq b 92) is in rw (plain.0, plain.1) refl
-cut_from-unit (escaped b) text is = put_first-twice (92 ∷ []) (b ∷ []) (cut_from Inside text)
+cut_from-unit (quoted_pair b) text is = put_first-twice (92 ∷ []) (b ∷ []) (cut_from Inside text)
 
 cut_from-units : (us : List QuotedUnit) (text : List ℕ) → list_all is_unit us ≡ true
-    → cut_from Inside (flat_map print_unit us ++ text) ≡ put_first (flat_map print_unit us) (cut_from Inside text)
+    → cut_from Inside (flat_map unit_text us ++ text) ≡ put_first (flat_map unit_text us) (cut_from Inside text)
 cut_from-units [] text are = sym (put_first-none (cut_from Inside text))
 cut_from-units (u ∷ us) text are =
     let parts = and_parts (is_unit u) (list_all is_unit us) are in
-    ap (cut_from Inside) (append_assoc (print_unit u) (flat_map print_unit us) text)
-    ∙ cut_from-unit u (flat_map print_unit us ++ text) parts.0
-    ∙ ap (put_first (print_unit u)) (cut_from-units us text parts.1)
-    ∙ put_first-twice (print_unit u) (flat_map print_unit us) (cut_from Inside text)
+    ap (cut_from Inside) (append_assoc (unit_text u) (flat_map unit_text us) text)
+    ∙ cut_from-unit u (flat_map unit_text us ++ text) parts.0
+    ∙ ap (put_first (unit_text u)) (cut_from-units us text parts.1)
+    ∙ put_first-twice (unit_text u) (flat_map unit_text us) (cut_from Inside text)
 
 -- a piece behind which the value may go on
 cut_from-piece : (p : Piece) (text : List ℕ) → is_piece p ≡ true → is_last p ≡ false
@@ -55,9 +55,9 @@ cut_from-piece : (p : Piece) (text : List ℕ) → is_piece p ≡ true → is_la
 cut_from-piece (bare b) text is goes_on =
     let plain = plain_unit (nat_eq b 44) (nat_eq b 34) is in rw (plain.0, plain.1) refl
 cut_from-piece (string us by_quote) text is goes_on =
-    ap (λ back. put_first (34 ∷ []) (cut_from Inside back)) (append_assoc (flat_map print_unit us) (34 ∷ []) text)
-    ∙ ap (put_first (34 ∷ [])) (cut_from-units us (34 ∷ text) is ∙ put_first-twice (flat_map print_unit us) (34 ∷ []) (cut_from Outside text))
-    ∙ put_first-twice (34 ∷ []) (flat_map print_unit us ++ 34 ∷ []) (cut_from Outside text)
+    ap (λ back. put_first (34 ∷ []) (cut_from Inside back)) (append_assoc (flat_map unit_text us) (34 ∷ []) text)
+    ∙ ap (put_first (34 ∷ [])) (cut_from-units us (34 ∷ text) is ∙ put_first-twice (flat_map unit_text us) (34 ∷ []) (cut_from Outside text))
+    ∙ put_first-twice (34 ∷ []) (flat_map unit_text us ++ 34 ∷ []) (cut_from Outside text)
 cut_from-piece (string us by_end) text is goes_on = absurd (cc)
 cut_from-piece (string us by_backslash) text is goes_on = absurd (cc)
 
@@ -66,8 +66,8 @@ cut_from-last : (p : Piece) → is_piece p ≡ true → is_last p ≡ true → c
 cut_from-last (bare b) is last = absurd (cc)
 cut_from-last (string us by_quote) is last = absurd (cc)
 cut_from-last (string us by_end) is last =
-    ap (put_first (34 ∷ [])) (cut_from-units us [] is ∙ ap (λ t. t ∷ []) (append-nil (flat_map print_unit us)))
-    ∙ ap (λ t. (34 ∷ t) ∷ []) (sym (append-nil (flat_map print_unit us)))
+    ap (put_first (34 ∷ [])) (cut_from-units us [] is ∙ ap (λ t. t ∷ []) (append-nil (flat_map unit_text us)))
+    ∙ ap (λ t. (34 ∷ t) ∷ []) (sym (append-nil (flat_map unit_text us)))
 cut_from-last (string us by_backslash) is last = ap (put_first (34 ∷ [])) (cut_from-units us (92 ∷ []) is)
 
 -- what a part's pieces say
@@ -205,21 +205,21 @@ cut-comma text rest =
     ] rest.is
 
 cut-string : (text : List ℕ) (us : List QuotedUnit) (rest : List ℕ) → list_all is_unit us ≡ true → stops_units rest ≡ true
-    → text ≡ flat_map print_unit us ++ rest → ((t : List ℕ) → length t ≤ length rest → CutOf t) → CutOf (34 ∷ text)
+    → text ≡ flat_map unit_text us ++ rest → ((t : List ℕ) → length t ≤ length rest → CutOf t) → CutOf (34 ∷ text)
 cut-string text us [] are stops whole more =
     subst (λ t. CutOf (34 ∷ t)) (sym whole) (cut-last (string us by_end) are)
 cut-string text us (b ∷ rest) are stops whole more =
     elim (eqb_tells b 34) [
       | inl quote ↦
           let same : print_piece (string us by_quote) ++ rest ≡ 34 ∷ text =
-          ap (λ t. 34 ∷ t) (append_assoc (flat_map print_unit us) (34 ∷ []) rest ∙ ap (λ c. flat_map print_unit us ++ (c ∷ rest)) (sym quote.1) ∙ sym whole) in
+          ap (λ t. 34 ∷ t) (append_assoc (flat_map unit_text us) (34 ∷ []) rest ∙ ap (λ c. flat_map unit_text us ++ (c ∷ rest)) (sym quote.1) ∙ sym whole) in
           subst CutOf same (cut-piece (string us by_quote) rest are refl (more rest (omega arith)))
       | inr unquoted ↦
           let slash = and_parts (nat_eq b 92) (is_empty rest) (ap (λ v. v || (nat_eq b 92 && is_empty rest)) (sym unquoted.0) ∙ stops) in
           let is : b ≡ 92 = eqb-true b 92 slash.0 in
           let none : rest ≡ [] = nothing rest slash.1 in
           let same : print_piece (string us by_backslash) ≡ 34 ∷ text =
-          ap (λ t. 34 ∷ t) (ap (λ t. flat_map print_unit us ++ (92 ∷ t)) (sym none) ∙ ap (λ c. flat_map print_unit us ++ (c ∷ rest)) (sym is) ∙ sym whole) in
+          ap (λ t. 34 ∷ t) (ap (λ t. flat_map unit_text us ++ (92 ∷ t)) (sym none) ∙ ap (λ c. flat_map unit_text us ++ (c ∷ rest)) (sym is) ∙ sym whole) in
           subst CutOf same (cut-last (string us by_backslash) are)
     ] where
       nothing : (t : List ℕ) → is_empty t ≡ true → t ≡ []

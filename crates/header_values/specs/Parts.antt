@@ -2,9 +2,9 @@
 use Rattle.std.specs.Prelude.{◌≡◌, ℕ, Bool, true, false, ◌&&◌, ◌||◌, ◌==◌, not, List, [], ◌∷◌, ◌++◌, map}
 use Rattle.std.specs.List.{list_all, flat_map}
 use Rattle.orb_bytes.specs.Ascii.{quotation_mark, comma}
-use Rattle.orb_bytes.specs.Bytes.{is_tab_or_space}
+use Rattle.orb_bytes.specs.Bytes.{is_empty, is_tab_or_space}
+use Rattle.orb_bytes.specs.Quoted.{QuotedUnit, unit_text, is_unit, Close, close_text, is_at_end}
 use Rattle.orb_bytes.specs.Trim.{trimmed}
-use Rattle.mime_types.specs.Mime.{is_empty, QuotedUnit, print_unit, is_unit, Close, print_close, is_at_end}
 
 -- a piece of a part: a byte, or a quoted string
 pub data Piece : Type 0 where
@@ -13,7 +13,7 @@ pub data Piece : Type 0 where
 
 abbrev pub print_piece : Piece → List ℕ
 print_piece (bare byte) = byte ∷ []
-print_piece (string units close) = quotation_mark ∷ (flat_map print_unit units ++ print_close close)
+print_piece (string units close) = quotation_mark ∷ (flat_map unit_text units ++ close_text close)
 
 -- the byte is neither `,` nor `"`
 abbrev pub is_piece : Piece → Bool

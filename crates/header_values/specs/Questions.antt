@@ -2,7 +2,7 @@
 use Rattle.std.specs.Prelude.{ℕ, Bool, false, not, ◌&&◌, List, [], ◌∷◌, codes}
 use Rattle.std.specs.List.{list_any}
 use Rattle.orb_bytes.specs.Fields.{same_name}
-use Rattle.mime_types.specs.Mime.{is_empty}
+use Rattle.orb_bytes.specs.Bytes.{is_empty}
 use Rattle.header_values.specs.Joined.{joined}
 use Rattle.header_values.specs.Cuts.{parts_left_of}
 

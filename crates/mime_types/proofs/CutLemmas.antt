@@ -3,76 +3,18 @@ use Rattle.std.proofs.Common.{◌≡◌, ℕ, Bool, true, false, not, nat_eq, Li
 use Rattle.std.specs.List.{list_all, flat_map}
 use Rattle.std.proofs.lemmas.Bool.{and_parts, and_from, eqb-true}
 use Rattle.std.proofs.lemmas.Bool.Decides.{eqb_tells}
-use Rattle.orb_bytes.specs.Bytes.{is_http_whitespace, is_token_byte}
+use Rattle.orb_bytes.specs.Bytes.{is_empty, is_http_whitespace, is_token_byte}
+use Rattle.orb_bytes.specs.Quoted.{unit_text, is_unit, Close, by_quote, by_end, by_backslash, close_text, is_at_end}
+use Rattle.orb_bytes.proofs.QuotedLemmas.{stops_units, units_unique}
 use Rattle.mime_types.specs.Spans.{begins_outside}
-use Rattle.mime_types.specs.Mime.{is_empty, QuotedUnit, itself, escaped, print_unit, is_unit, Close, by_quote, by_end, by_backslash, print_close, is_at_end, Assigned, nothing, quoted, plain, print_assigned, is_no_semicolon, is_assigned, is_last, Segment, print_segment, is_name_byte, is_segment, print_segments, are_segments, is_token, Cut, IsCut, mime_of, HasOneRecord}
+use Rattle.mime_types.specs.Mime.{Assigned, nothing, quoted, plain, print_assigned, is_no_semicolon, is_assigned, is_last, Segment, print_segment, is_name_byte, is_segment, print_segments, are_segments, is_token, Cut, IsCut, mime_of, HasOneRecord}
 use Rattle.mime_types.proofs.SpanLemmas.{span_unique}
 use Rattle.mime_types.proofs.BoolLemmas.{true_from_not_not}
-
--- what may stand behind the units of a quoted string
-abbrev pub stops_units : List ℕ → Bool
-stops_units [] = true
-stops_units (b ∷ text) = nat_eq b 34 || (nat_eq b 92 && is_empty text)
-
--- a unit that stands for itself begins nothing that stands behind units
-not_both : (quote slash last : Bool) → not (quote || slash) ≡ true → (quote || (slash && last)) ≡ true → ⊥
-not_both true slash last unit stop = cc
-not_both false true last unit stop = cc
-not_both false false last unit stop = cc
-
-itself_never_stops : (b c : ℕ) (x : List ℕ) → is_unit (itself b) ≡ true → stops_units (c ∷ x) ≡ true → c ≡ b → ⊥
-itself_never_stops b c x unit stop same =
-    not_both (nat_eq c 34) (nat_eq c 92) (is_empty x) (ap (λ e. is_unit (itself e)) same ∙ unit) stop
-
-escaped_never_stops : (b : ℕ) (x y : List ℕ) → stops_units x ≡ true → x ≡ 92 ∷ (b ∷ y) → ⊥
-escaped_never_stops b x y stop same =
-    let lie : true ≡ false = sym stop ∙ ap stops_units same in cc
-
-never_backslash : (b : ℕ) → is_unit (itself b) ≡ true → b ≡ 92 → ⊥
-never_backslash b unit same =
-    let lie : false ≡ true = ap (λ e. is_unit (itself e)) (sym same) ∙ unit in cc
-
-rest_are_units : (u : QuotedUnit) (us : List QuotedUnit) → list_all is_unit (u ∷ us) ≡ true
-    → (is_unit u ≡ true) × (list_all is_unit us ≡ true)
-rest_are_units u us are = and_parts (is_unit u) (list_all is_unit us) are
-
-pub units_unique : (us vs : List QuotedUnit) (x y : List ℕ) → list_all is_unit us ≡ true
-    → list_all is_unit vs ≡ true → stops_units x ≡ true → stops_units y ≡ true
-    → flat_map print_unit us ++ x ≡ flat_map print_unit vs ++ y → (us ≡ vs) × (x ≡ y)
-units_unique [] [] x y us_are vs_are xs ys same = (refl, same)
-units_unique [] (itself b ∷ vs) [] y us_are vs_are xs ys same = absurd (cc)
-units_unique [] (itself b ∷ vs) (c ∷ x) y us_are vs_are xs ys same =
-    absurd (itself_never_stops b c x (rest_are_units (itself b) vs vs_are).0 xs (cc))
-units_unique [] (escaped b ∷ vs) x y us_are vs_are xs ys same =
-    absurd (escaped_never_stops b x (flat_map print_unit vs ++ y) xs same)
-units_unique (itself b ∷ us) [] x [] us_are vs_are xs ys same = absurd (cc)
-units_unique (itself b ∷ us) [] x (c ∷ y) us_are vs_are xs ys same =
-    absurd (itself_never_stops b c y (rest_are_units (itself b) us us_are).0 ys (cc))
-units_unique (escaped b ∷ us) [] x y us_are vs_are xs ys same =
-    absurd (escaped_never_stops b y (flat_map print_unit us ++ x) ys (sym same))
-units_unique (itself b ∷ us) (itself c ∷ vs) x y us_are vs_are xs ys same =
-    let bytes : b ≡ c = cc in
-    let rest : flat_map print_unit us ++ x ≡ flat_map print_unit vs ++ y = cc in
-    let parts = units_unique us vs x y (rest_are_units (itself b) us us_are).1
-    (rest_are_units (itself c) vs vs_are).1 xs ys rest in
-    let units : us ≡ vs = parts.0 in
-    (cc, parts.1)
-units_unique (itself b ∷ us) (escaped c ∷ vs) x y us_are vs_are xs ys same =
-    absurd (never_backslash b (rest_are_units (itself b) us us_are).0 (cc))
-units_unique (escaped b ∷ us) (itself c ∷ vs) x y us_are vs_are xs ys same =
-    absurd (never_backslash c (rest_are_units (itself c) vs vs_are).0 (cc))
-units_unique (escaped b ∷ us) (escaped c ∷ vs) x y us_are vs_are xs ys same =
-    let bytes : b ≡ c = cc in
-    let rest : flat_map print_unit us ++ x ≡ flat_map print_unit vs ++ y = cc in
-    let parts = units_unique us vs x y (rest_are_units (escaped b) us us_are).1
-    (rest_are_units (escaped c) vs vs_are).1 xs ys rest in
-    let units : us ≡ vs = parts.0 in
-    (cc, parts.1)
 
 -- what stands behind the units of a valid segment stops them
 pub close_stops : (c : Close) (i r : List ℕ)
     → (if is_at_end c then is_empty i else list_all is_no_semicolon i) ≡ true
-    → (is_at_end c ≡ true → r ≡ []) → stops_units (print_close c ++ (i ++ r)) ≡ true
+    → (is_at_end c ≡ true → r ≡ []) → stops_units (close_text c ++ (i ++ r)) ≡ true
 close_stops by_quote i r ignored end = refl
 close_stops by_end [] r ignored end = rw (end refl) refl
 close_stops by_end (b ∷ i) r ignored end = absurd (cc)
@@ -84,7 +26,7 @@ pub close_unique : (c d : Close) (i j r q : List ℕ)
     → (if is_at_end d then is_empty j else list_all is_no_semicolon j) ≡ true
     → (is_at_end c ≡ true → r ≡ []) → (is_at_end d ≡ true → q ≡ [])
     → begins_outside is_no_semicolon r ≡ true → begins_outside is_no_semicolon q ≡ true
-    → print_close c ++ (i ++ r) ≡ print_close d ++ (j ++ q) → (c ≡ d) × (i ≡ j) × (r ≡ q)
+    → close_text c ++ (i ++ r) ≡ close_text d ++ (j ++ q) → (c ≡ d) × (i ≡ j) × (r ≡ q)
 close_unique by_quote by_quote i j r q is_i is_j end_r end_q out_r out_q same =
     let rest : i ++ r ≡ j ++ q = cc in
     let parts = span_unique is_no_semicolon i j r q is_i is_j out_r out_q rest in
@@ -143,11 +85,11 @@ assigned_unique (quoted us c i) nothing r q is_f is_g end_r end_q out_r out_q sa
 assigned_unique (plain v) nothing r q is_f is_g end_r end_q out_r out_q same =
     absurd (never_equals q _ out_q (sym same))
 assigned_unique (quoted us c i) (plain v) r q is_f is_g end_r end_q out_r out_q same =
-    let rest : v ++ q ≡ 34 ∷ ((flat_map print_unit us ++ (print_close c ++ i)) ++ r) = cc in
+    let rest : v ++ q ≡ 34 ∷ ((flat_map unit_text us ++ (close_text c ++ i)) ++ r) = cc in
     absurd (plain_never_quoted v q _
     (and_parts (begins_outside (λ b. nat_eq b 34) v) (list_all is_no_semicolon v) is_g).0 out_q rest)
 assigned_unique (plain v) (quoted us c i) r q is_f is_g end_r end_q out_r out_q same =
-    let rest : v ++ r ≡ 34 ∷ ((flat_map print_unit us ++ (print_close c ++ i)) ++ q) = cc in
+    let rest : v ++ r ≡ 34 ∷ ((flat_map unit_text us ++ (close_text c ++ i)) ++ q) = cc in
     absurd (plain_never_quoted v r _
     (and_parts (begins_outside (λ b. nat_eq b 34) v) (list_all is_no_semicolon v) is_f).0 out_r rest)
 assigned_unique (plain v) (plain w) r q is_f is_g end_r end_q out_r out_q same =
@@ -159,10 +101,10 @@ assigned_unique (plain v) (plain w) r q is_f is_g end_r end_q out_r out_q same =
 assigned_unique (quoted us c i) (quoted vs d j) r q is_f is_g end_r end_q out_r out_q same =
     let units_f = and_parts (list_all is_unit us) (if is_at_end c then is_empty i else list_all is_no_semicolon i) is_f in
     let units_g = and_parts (list_all is_unit vs) (if is_at_end d then is_empty j else list_all is_no_semicolon j) is_g in
-    let inner : (flat_map print_unit us ++ (print_close c ++ i)) ++ r ≡ (flat_map print_unit vs ++ (print_close d ++ j)) ++ q = cc in
-    let regrouped : flat_map print_unit us ++ (print_close c ++ (i ++ r)) ≡ flat_map print_unit vs ++ (print_close d ++ (j ++ q)) =
+    let inner : (flat_map unit_text us ++ (close_text c ++ i)) ++ r ≡ (flat_map unit_text vs ++ (close_text d ++ j)) ++ q = cc in
+    let regrouped : flat_map unit_text us ++ (close_text c ++ (i ++ r)) ≡ flat_map unit_text vs ++ (close_text d ++ (j ++ q)) =
     simp append_assoc at inner in
-    let units = units_unique us vs (print_close c ++ (i ++ r)) (print_close d ++ (j ++ q)) units_f.0 units_g.0
+    let units = units_unique us vs (close_text c ++ (i ++ r)) (close_text d ++ (j ++ q)) units_f.0 units_g.0
     (close_stops c i r units_f.1 end_r) (close_stops d j q units_g.1 end_q) regrouped in
     let closes = close_unique c d i j r q units_f.1 units_g.1 end_r end_q out_r out_q units.1 in
     let same_units : us ≡ vs = units.0 in

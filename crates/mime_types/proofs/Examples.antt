@@ -1,12 +1,13 @@
 -- Texts, their cuts and their records, computed from the definitions.
 use Rattle.std.proofs.Common.{ℕ, List, [], ◌∷◌, ◌++◌, codes, map, refl}
-use Rattle.mime_types.specs.Mime.{IsMime, itself, escaped, by_quote, by_end, by_backslash, nothing, quoted, plain, Segment, Assigned, QuotedUnit}
+use Rattle.orb_bytes.specs.Quoted.{QuotedUnit, qdtext, quoted_pair, by_quote, by_end, by_backslash}
+use Rattle.mime_types.specs.Mime.{IsMime, nothing, quoted, plain, Segment, Assigned}
 
 abbrev segment : List ℕ → List ℕ → Assigned → Segment
 segment space name assigned = record { space = space; name = name; assigned = assigned }
 
 abbrev letters : List ℕ → List QuotedUnit
-letters text = map itself text
+letters text = map qdtext text
 
 -- `text/plain;a="\"";a=2;b=`: the first of two values of a name counts, and an empty value none
 first_counts : IsMime
@@ -18,7 +19,7 @@ first_counts = (
     sub = codes "plain";
     space = [];
     segments =
-        segment [] (codes "a") (quoted (escaped 34 ∷ []) by_quote [])
+        segment [] (codes "a") (quoted (quoted_pair 34 ∷ []) by_quote [])
         ∷ segment [] (codes "a") (plain (codes "2"))
         ∷ segment [] (codes "b") (plain [])
         ∷ [];

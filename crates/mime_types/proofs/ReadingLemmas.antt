@@ -1,57 +1,16 @@
 -- How a reader of a text goes on.
-use Rattle.std.proofs.Common.{◌≡◌, ◌≢◌, ℕ, Bool, true, false, not, nat_eq, ◌&&◌, ◌||◌, List, [], ◌∷◌, ◌++◌, length, map, refl, sym, ap, ◌∙◌, append_assoc, append-nil, ne_eqb, arith, if◌then◌else◌}
+use Rattle.std.proofs.Common.{◌≡◌, ℕ, Bool, true, false, not, nat_eq, ◌&&◌, ◌||◌, List, [], ◌∷◌, ◌++◌, length, refl, sym, ap, ◌∙◌, append_assoc, arith, if◌then◌else◌}
 use Rattle.std.specs.List.{list_all, flat_map}
 use Rattle.std.proofs.lemmas.Bool.{and_from}
-use Rattle.std.proofs.lemmas.Grind.{flat_map-append}
-use Rattle.std.proofs.lemmas.List.{map-append}
-use Rattle.std.proofs.lemmas.List.Folds.{list_all-append}
-use Rattle.orb_bytes.specs.Bytes.{is_http_whitespace}
+use Rattle.orb_bytes.specs.Bytes.{is_empty, is_http_whitespace}
 use Rattle.orb_bytes.specs.Trim.{without_leading}
 use Rattle.orb_bytes.proofs.TrimLemmas.{leading_of}
+use Rattle.orb_bytes.specs.Quoted.{QuotedUnit, unit_text, is_unit, Close, by_quote, by_end, by_backslash, close_text, is_at_end, ReadsQuoted}
 use Rattle.mime_types.specs.Spans.{begins_outside, Spans}
-use Rattle.mime_types.specs.Mime.{is_empty, QuotedUnit, itself, print_unit, is_unit, unit_value, Close, by_quote, by_end, by_backslash, print_close, is_at_end, Assigned, nothing, quoted, plain, is_assigned, is_last, is_no_semicolon, is_name_byte, Segment, is_segment, print_segment, print_segments, are_segments}
-use Rattle.mime_types.specs.Reading.{ReadsQuoted, ReadsAssigned, ReadsSegment}
+use Rattle.mime_types.specs.Mime.{Assigned, nothing, quoted, plain, is_assigned, is_last, is_no_semicolon, is_name_byte, Segment, is_segment, print_segment, print_segments, are_segments}
+use Rattle.mime_types.specs.Reading.{ReadsAssigned, ReadsSegment}
 use Rattle.mime_types.proofs.TrailingLemmas.{without_leading_begins}
 use Rattle.mime_types.proofs.CutLemmas.{is_semicolon}
-
--- the units that are read of a text, their bytes, and the rest
-abbrev pub ReadsUnits : List ℕ → List ℕ → List ℕ → Type 0
-ReadsUnits text value rest =
-    (units : List QuotedUnit) × (list_all is_unit units ≡ true)
-    × (text ≡ flat_map print_unit units ++ rest) × (value ≡ map unit_value units)
-
--- one unit more
-pub more_units : (text value rest value' rest' : List ℕ) (unit : QuotedUnit) → ReadsUnits text value rest
-    → is_unit unit ≡ true → rest ≡ print_unit unit ++ rest' → value' ≡ value ++ unit_value unit ∷ []
-    → ReadsUnits text value' rest'
-more_units text value rest value' rest' unit reads is cut grown =
-    let units = reads.0 in (
-      units ++ unit ∷ [],
-      list_all-append is_unit units (unit ∷ []) ∙ and_from (list_all is_unit units) (is_unit unit && true) reads.1 (and_from (is_unit unit) true is refl),
-      reads.2 ∙ ap (λ back. flat_map print_unit units ++ back) cut
-          ∙ ap (λ back. flat_map print_unit units ++ (back ++ rest')) (sym (append-nil (print_unit unit)))
-          ∙ sym (append_assoc (flat_map print_unit units) (print_unit unit ++ []) rest')
-          ∙ ap (λ front. front ++ rest') (sym (flat_map-append print_unit units (unit ∷ []))),
-      grown ∙ ap (λ front. front ++ unit_value unit ∷ []) reads.3 ∙ sym (map-append unit_value units (unit ∷ [])),
-    )
-
--- a unit in front of a quoted string's others
-pub reads_unit : (text : List ℕ) (unit : QuotedUnit) (rest : List ℕ) (units : List QuotedUnit) (c : Close) (behind : List ℕ)
-    → is_unit unit ≡ true → text ≡ print_unit unit ++ rest → ReadsQuoted rest units c behind
-    → ReadsQuoted text (unit ∷ units) c behind
-reads_unit text unit rest units c behind is cut reads = record {
-  are = and_from (is_unit unit) (list_all is_unit units) is reads.are;
-  last = reads.last;
-  whole = cut ∙ ap (λ back. print_unit unit ++ back) reads.whole
-      ∙ sym (append_assoc (print_unit unit) (flat_map print_unit units) (print_close c ++ behind));
-}
-
--- a byte that is neither `"` nor `\`
-pub unit_itself : (b : ℕ) → b ≢ 34 → b ≢ 92 → is_unit (itself b) ≡ true
-unit_itself b quote slash =
-    let no_quote = ne_eqb b 34 quote in
-    let no_slash = ne_eqb b 92 slash in
-    rw (no_quote, no_slash) refl
 
 -- a front of a text begins as the text does
 pub front_begins : (test : ℕ → Bool) (front back : List ℕ) → begins_outside test (front ++ back) ≡ true
@@ -116,7 +75,7 @@ reads_string text inner string behind ignored rest units c equals quote reads sp
       last = end.1;
       begins = spans.stops;
       whole = equals ∙ ap (λ back. 61 ∷ back) (quote ∙ ap (λ back. 34 ∷ back) (reads.whole
-          ∙ ap (λ back. flat_map print_unit units ++ (print_close c ++ back)) spans.whole ∙ simp append_assoc));
+          ∙ ap (λ back. flat_map unit_text units ++ (close_text c ++ back)) spans.whole ∙ simp append_assoc));
     }
 
 -- the segment that its parts make

@@ -3,34 +3,13 @@ use Rattle.std.proofs.Common.{◌≡◌, ℕ, zero, suc, ◌≤◌, true, not, n
 use Rattle.std.proofs.lemmas.Bool.Decides.{eqb_tells}
 use Rattle.orb_bytes.specs.Bytes.{is_http_whitespace}
 use Rattle.orb_bytes.specs.Trim.{without_leading}
+use Rattle.orb_bytes.proofs.QuotedLemmas.{quoted_of}
 use Rattle.mime_types.specs.Spans.{begins_outside}
-use Rattle.mime_types.specs.Mime.{QuotedUnit, itself, escaped, Close, by_quote, by_end, by_backslash, print_assigned, is_no_semicolon, Assigned, nothing, quoted, plain, Segment, is_name_byte, print_segments, are_segments}
-use Rattle.mime_types.specs.Reading.{ReadsQuoted, ReadsAssigned, ReadsSegment}
+use Rattle.mime_types.specs.Mime.{print_assigned, is_no_semicolon, Assigned, nothing, quoted, plain, Segment, is_name_byte, print_segments, are_segments}
+use Rattle.mime_types.specs.Reading.{ReadsAssigned, ReadsSegment}
 use Rattle.mime_types.proofs.SpanLemmas.{span_of}
 use Rattle.mime_types.proofs.CutLemmas.{is_semicolon}
-use Rattle.mime_types.proofs.ReadingLemmas.{reads_unit, reads_nothing, reads_plain, reads_string, reads_segment, more_segments}
-
--- behind an opening quote stands some string
-quoted_of : (text : List ℕ) → (units : List QuotedUnit) × (close : Close) × (behind : List ℕ) × ReadsQuoted text units close behind
-quoted_of [] = ([], by_end, [], record { are = refl; last = λ is. refl; whole = refl })
-quoted_of (b ∷ []) =
-    elim (eqb_tells b 34) [
-      | inl quote ↦ ([], by_quote, [], record { are = refl; last = λ never. absurd (cc); whole = ap (λ e. e ∷ []) quote.1 })
-      | inr unquoted ↦ elim (eqb_tells b 92) [
-        | inl slash ↦ ([], by_backslash, [], record { are = refl; last = λ is. refl; whole = ap (λ e. e ∷ []) slash.1 })
-        | inr other ↦ (itself b ∷ [], by_end, [], record { are = rw (unquoted.0, other.0) refl; last = λ is. refl; whole = refl })
-      ]
-    ]
-quoted_of (b ∷ (c ∷ text)) =
-    elim (eqb_tells b 34) [
-      | inl quote ↦ ([], by_quote, c ∷ text, record { are = refl; last = λ never. absurd (cc); whole = ap (λ e. e ∷ (c ∷ text)) quote.1 })
-      | inr unquoted ↦ elim (eqb_tells b 92) [
-        | inl slash ↦ let more = quoted_of text in
-            (escaped c ∷ more.0, more.1, more.2, reads_unit (b ∷ (c ∷ text)) (escaped c) text more.0 more.1 more.2 refl (ap (λ e. e ∷ (c ∷ text)) slash.1) more.3)
-        | inr other ↦ let more = quoted_of (c ∷ text) in
-            (itself b ∷ more.0, more.1, more.2, reads_unit (b ∷ (c ∷ text)) (itself b) (c ∷ text) more.0 more.1 more.2 (rw (unquoted.0, other.0) refl) refl more.3)
-      ]
-    ]
+use Rattle.mime_types.proofs.ReadingLemmas.{reads_nothing, reads_plain, reads_string, reads_segment, more_segments}
 
 -- behind a name something is assigned, or nothing
 abbrev AssignedIn : List ℕ → Type 0

@@ -5,54 +5,19 @@ use Rattle.std.specs.Char.{to_ascii_lowercase, is_ascii_uppercase}
 use Rattle.std.specs.Str.{str_to_ascii_lowercase}
 use Rattle.std.proofs.lemmas.Bool.{and_parts, and_from}
 use Rattle.std.proofs.lemmas.Bool.Decides.{nat_tests}
-use Rattle.orb_bytes.specs.Bytes.{is_http_whitespace, is_token_byte, is_quoted_token_byte}
+use Rattle.orb_bytes.specs.Bytes.{is_empty, is_http_whitespace, is_token_byte, is_quoted_token_byte}
 use Rattle.orb_bytes.specs.Trim.{without_leading, without_trailing}
 use Rattle.orb_bytes.proofs.TrimLemmas.{without_leading-stop, without_trailing-stop}
+use Rattle.orb_bytes.specs.Quoted.{is_unit, unit_value, by_quote, quoted_byte}
+use Rattle.orb_bytes.proofs.QuotedLemmas.{unit_of, units_print, units_stand, units_are}
 use Rattle.mime_types.specs.Spans.{begins_outside}
-use Rattle.mime_types.specs.Mime.{Mime, is_empty, is_token, QuotedUnit, itself, escaped, print_unit, is_unit, unit_value, by_quote, Assigned, quoted, plain, print_assigned, is_assigned, is_last, assigned_value, unless_empty, is_no_semicolon, is_name_byte, Segment, is_segment, print_segments, are_segments, pair_of, is_parameter, first_of_each, parameters_of, Cut, IsMime}
+use Rattle.mime_types.specs.Mime.{Mime, is_token, Assigned, quoted, plain, print_assigned, is_assigned, is_last, assigned_value, unless_empty, is_no_semicolon, is_name_byte, Segment, is_segment, print_segments, are_segments, pair_of, is_parameter, first_of_each, parameters_of, Cut, IsMime}
 use Rattle.mime_types.specs.Records.{is_small_token, is_small_parameter, has_name, names_differ, IsRecord}
-use Rattle.mime_types.specs.Text.{quoted_byte, value_text, parameter_text, text_of}
+use Rattle.mime_types.specs.Text.{value_text, parameter_text, text_of}
 use Rattle.mime_types.proofs.CutLemmas.{class_within, class_without, token_bytes, token_no_semicolon, token_no_space}
 use Rattle.mime_types.proofs.TrailingLemmas.{without_trailing-none}
 use Rattle.mime_types.proofs.NameLemmas.{is_other, filter_all}
 use Rattle.mime_types.proofs.BoolLemmas.{false_from_not}
-
--- the unit that a byte of a value is written as
-abbrev unit_of : ℕ → QuotedUnit
-unit_of b = if nat_eq b 34 || nat_eq b 92 then escaped b else itself b
-
-unit_prints : (b : ℕ) → print_unit (unit_of b) ≡ quoted_byte b
-unit_prints b =
-    elim (nat_eq b 34 || nat_eq b 92) as (λ v. print_unit (if v then escaped b else itself b) ≡ (if v then 92 ∷ (b ∷ []) else b ∷ [])) [
-      | true ↦ refl
-      | false ↦ refl
-    ]
-
-unit_stands : (b : ℕ) → unit_value (unit_of b) ≡ b
-unit_stands b =
-    elim (nat_eq b 34 || nat_eq b 92) as (λ v. unit_value (if v then escaped b else itself b) ≡ b) [ true ↦ refl | false ↦ refl ]
-
-unit_is : (b : ℕ) → is_unit (unit_of b) ≡ true
-unit_is b =
-    elim (nat_eq b 34 || nat_eq b 92) as (λ v. (nat_eq b 34 || nat_eq b 92) ≡ v → is_unit (if v then escaped b else itself b) ≡ true) [
-      | true ↦ λ quoted. refl
-      | false ↦ λ other. ap not other
-    ] refl
-
-units_print : (value : List ℕ) → flat_map print_unit (map unit_of value) ≡ flat_map quoted_byte value
-units_print [] = refl
-units_print (b ∷ value) =
-    ap (λ front. front ++ flat_map print_unit (map unit_of value)) (unit_prints b)
-    ∙ ap (λ back. quoted_byte b ++ back) (units_print value)
-
-units_stand : (value : List ℕ) → map unit_value (map unit_of value) ≡ value
-units_stand [] = refl
-units_stand (b ∷ value) =
-    ap (λ e. e ∷ map unit_value (map unit_of value)) (unit_stands b) ∙ ap (λ rest. b ∷ rest) (units_stand value)
-
-units_are : (value : List ℕ) → list_all is_unit (map unit_of value) ≡ true
-units_are [] = refl
-units_are (b ∷ value) = and_from (is_unit (unit_of b)) (list_all is_unit (map unit_of value)) (unit_is b) (units_are value)
 
 -- how a value is written
 abbrev written : List ℕ → Assigned

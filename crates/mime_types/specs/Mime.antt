@@ -1,12 +1,13 @@
 -- MIME types as texts write them (WHATWG MIME Sniffing 4.4). The text of a MIME type is cut into
 -- its parts; each part is a tree with a printer to its bytes, and a test that says which trees are
 -- valid. The record is what the cut stands for.
-use Rattle.std.specs.Prelude.{◌≡◌, ℕ, Bool, true, false, ◌&&◌, ◌||◌, ◌==◌, not, if◌then◌else◌, List, [], ◌∷◌, ◌++◌, map, filter, Option, Some, None, option_map, bytes_eq}
+use Rattle.std.specs.Prelude.{◌≡◌, ℕ, Bool, true, false, ◌&&◌, ◌||◌, ◌==◌, not, if◌then◌else◌, List, [], ◌∷◌, ◌++◌, filter, Option, Some, None, option_map, bytes_eq}
 use Rattle.std.specs.List.{list_all, flat_map, filter_map}
 use Rattle.std.specs.Str.{str_to_ascii_lowercase}
-use Rattle.orb_bytes.specs.Ascii.{quotation_mark, solidus, semicolon, equals_sign, reverse_solidus}
-use Rattle.orb_bytes.specs.Bytes.{AllPass, is_http_whitespace, is_token_byte, is_quoted_token_byte}
+use Rattle.orb_bytes.specs.Ascii.{quotation_mark, solidus, semicolon, equals_sign}
+use Rattle.orb_bytes.specs.Bytes.{is_empty, AllPass, is_http_whitespace, is_token_byte, is_quoted_token_byte}
 use Rattle.orb_bytes.specs.Trim.{trimmed, without_trailing}
+use Rattle.orb_bytes.specs.Quoted.{QuotedUnit, unit_text, is_unit, Close, close_text, is_at_end, quoted_value}
 use Rattle.mime_types.specs.Spans.{begins_outside}
 
 -- a MIME type record: type, subtype, and the parameters in their order (WHATWG MIME Sniffing 4.1)
@@ -15,60 +16,9 @@ pub record Mime : Type 0 where
   pub sub : List ℕ
   pub parameters : List (List ℕ × List ℕ)
 
--- the list has no element
-abbrev pub is_empty : {X : Type 0} → List X → Bool
-is_empty [] = true
-is_empty (x ∷ xs) = false
-
 -- solely HTTP token code points, and at least one
 abbrev pub is_token : List ℕ → Bool
 is_token text = not (is_empty text) && list_all is_token_byte text
-
--- a unit of a quoted string: a byte that stands for itself, or a byte behind a `\`
--- (WHATWG Fetch 2.2, collecting an HTTP quoted string)
-pub data QuotedUnit : Type 0 where
-  itself escaped : (byte : ℕ) → QuotedUnit
-
--- the bytes of a unit
-abbrev pub print_unit : QuotedUnit → List ℕ
-print_unit (itself byte) = byte ∷ []
-print_unit (escaped byte) = reverse_solidus ∷ (byte ∷ [])
-
--- neither `"` nor `\` stands for itself
-abbrev pub is_unit : QuotedUnit → Bool
-is_unit (itself byte) = not (byte == quotation_mark || byte == reverse_solidus)
-is_unit (escaped byte) = true
-
--- the byte that the unit stands for
-abbrev pub unit_value : QuotedUnit → ℕ
-unit_value (itself byte) = byte
-unit_value (escaped byte) = byte
-
--- what closes a quoted string: a `"`, the end of the text, or a `\` that is the text's last byte
-pub data Close : Type 0 where
-  by_quote by_end by_backslash : Close
-
--- the bytes of a close
-abbrev pub print_close : Close → List ℕ
-print_close by_quote = quotation_mark ∷ []
-print_close by_end = []
-print_close by_backslash = reverse_solidus ∷ []
-
--- a `\` at the end of the text stands for itself
-abbrev pub close_value : Close → List ℕ
-close_value by_quote = []
-close_value by_end = []
-close_value by_backslash = reverse_solidus ∷ []
-
--- the string goes to the end of the text
-abbrev pub is_at_end : Close → Bool
-is_at_end by_quote = false
-is_at_end by_end = true
-is_at_end by_backslash = true
-
--- the value of a quoted string: the bytes of its units, and what its close stands for
-abbrev pub quoted_value : List QuotedUnit → Close → List ℕ
-quoted_value units close = map unit_value units ++ close_value close
 
 -- what a segment has behind its name: nothing; `=`, a quoted string and bytes that are ignored; or
 -- `=` and a value without quotes
@@ -81,7 +31,7 @@ pub data Assigned : Type 0 where
 abbrev pub print_assigned : Assigned → List ℕ
 print_assigned nothing = []
 print_assigned (quoted units close ignored) =
-    equals_sign ∷ (quotation_mark ∷ (flat_map print_unit units ++ (print_close close ++ ignored)))
+    equals_sign ∷ (quotation_mark ∷ (flat_map unit_text units ++ (close_text close ++ ignored)))
 print_assigned (plain value) = equals_sign ∷ value
 
 -- a byte other than `;`

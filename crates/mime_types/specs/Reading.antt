@@ -1,11 +1,10 @@
 -- What a reader of a text has found so far: a tree at the front, and the rest behind it.
 use Rattle.std.specs.Prelude.{◌≡◌, ℕ, true, ◌&&◌, not, if◌then◌else◌, List, [], ◌∷◌, ◌++◌, Option, Some, None}
-use Rattle.std.specs.List.{list_all, flat_map}
 use Rattle.orb_bytes.specs.Ascii.{solidus}
 use Rattle.orb_bytes.specs.Bytes.{AllPass, is_http_whitespace}
 use Rattle.orb_bytes.specs.Trim.{trimmed}
 use Rattle.mime_types.specs.Spans.{begins_outside}
-use Rattle.mime_types.specs.Mime.{is_token, QuotedUnit, print_unit, is_unit, Close, print_close, is_at_end, Assigned, print_assigned, is_assigned, is_last, is_no_semicolon, Segment, print_segment, is_segment, print_segments, are_segments, is_parameter, parameters_of}
+use Rattle.mime_types.specs.Mime.{is_token, Assigned, print_assigned, is_assigned, is_last, is_no_semicolon, Segment, print_segment, is_segment, print_segments, are_segments, is_parameter, parameters_of}
 use Rattle.mime_types.specs.Records.{has_name}
 
 -- the text writes this type and subtype, and then the tail, which is empty or begins with `;`
@@ -16,12 +15,6 @@ pub record ReadsEssence (text main sub tail : List ℕ) : Type 0 where
   pub is_sub : is_token sub ≡ true
   pub is_space : AllPass is_http_whitespace space
   pub begins : begins_outside is_no_semicolon tail ≡ true
-
--- behind an opening quote the text is these units, what closes them, and the rest
-pub record ReadsQuoted (text : List ℕ) (units : List QuotedUnit) (close : Close) (rest : List ℕ) : Type 0 where
-  pub are : list_all is_unit units ≡ true
-  pub last : is_at_end close ≡ true → rest ≡ []
-  pub whole : text ≡ flat_map print_unit units ++ (print_close close ++ rest)
 
 -- behind a name the text is what the name is assigned, and the rest
 pub record ReadsAssigned (text : List ℕ) (assigned : Assigned) (rest : List ℕ) : Type 0 where

@@ -1,16 +1,13 @@
 -- The text of a MIME type record (WHATWG MIME Sniffing 4.5).
-use Rattle.std.specs.Prelude.{ℕ, ◌||◌, ◌==◌, if◌then◌else◌, List, [], ◌∷◌, ◌++◌}
+use Rattle.std.specs.Prelude.{ℕ, if◌then◌else◌, List, ◌∷◌, ◌++◌}
 use Rattle.std.specs.List.{flat_map}
-use Rattle.orb_bytes.specs.Ascii.{quotation_mark, solidus, semicolon, equals_sign, reverse_solidus}
+use Rattle.orb_bytes.specs.Ascii.{solidus, semicolon, equals_sign}
+use Rattle.orb_bytes.specs.Quoted.{quoted_text}
 use Rattle.mime_types.specs.Mime.{Mime, is_token}
-
--- a byte between quotes: `"` and `\` have a `\` before them
-abbrev pub quoted_byte : ℕ → List ℕ
-quoted_byte b = if b == quotation_mark || b == reverse_solidus then reverse_solidus ∷ (b ∷ []) else b ∷ []
 
 -- a value: as it is where it is a token, and else between quotes, the empty one too
 abbrev pub value_text : List ℕ → List ℕ
-value_text value = if is_token value then value else quotation_mark ∷ (flat_map quoted_byte value ++ (quotation_mark ∷ []))
+value_text value = if is_token value then value else quoted_text value
 
 -- a parameter: `;`, the name, `=` and the value
 abbrev pub parameter_text : List ℕ × List ℕ → List ℕ

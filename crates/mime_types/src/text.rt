@@ -1,10 +1,11 @@
 //! The text of a MIME type (WHATWG MIME Sniffing 4.5).
 ghost use Rattle.std.specs.Prelude.{◌≡◌, ◌++◌, OnOk};
-ghost use Rattle.mime_types.specs.Text.{quoted_byte, value_text, parameter_text, text_of};
+ghost use Rattle.mime_types.specs.Text.{value_text, parameter_text, text_of};
 ghost use Rattle.mime_types.specs.Stored.{pair_in, record_in};
 
 use crate::parameters::Parameter;
 use crate::scanning::is_nonempty_token;
+use orb_bytes::append_quoted;
 use std::alloc::AllocError;
 
 /// Appends the text of the MIME type of these parts.
@@ -43,20 +44,5 @@ fn append_value(text: &mut Vec<u8>, value: &[u8]) -> Result<(), AllocError>
     if is_nonempty_token(value) {
         return text.extend_from_slice(value);
     }
-    text.push(b'"')?;
-    for b in value {
-        append_quoted(text, *b)?;
-    }
-    text.push(b'"')?;
-    Ok(())
-}
-
-fn append_quoted(text: &mut Vec<u8>, b: u8) -> Result<(), AllocError>
-    ensures { OnOk result (text.new.items ≡ text.old.items ++ quoted_byte b) }
-{
-    if matches!(b, b'"' | b'\\') {
-        text.push(b'\\')?;
-    }
-    text.push(b)?;
-    Ok(())
+    append_quoted(text, value)
 }

@@ -1,12 +1,11 @@
-//! The values of parameters (WHATWG MIME Sniffing 4.4; the quoted string of WHATWG Fetch 2.2).
-ghost use Rattle.std.specs.Prelude.{◌≡◌, true, List, option_map, IfOk};
+//! The values of parameters (WHATWG MIME Sniffing 4.4).
+ghost use Rattle.std.specs.Prelude.{◌≡◌, true, option_map, IfOk};
 ghost use Rattle.mime_types.specs.Spans.{begins_outside};
-ghost use Rattle.mime_types.specs.Mime.{QuotedUnit, Close, Assigned, is_name_byte};
-ghost use Rattle.mime_types.specs.Mime.{quoted_value, assigned_value};
-ghost use Rattle.mime_types.specs.Reading.{ReadsQuoted, ReadsAssigned};
+ghost use Rattle.mime_types.specs.Mime.{Assigned, is_name_byte, assigned_value};
+ghost use Rattle.mime_types.specs.Reading.{ReadsAssigned};
 
 use crate::scanning::{split_before, strip_byte};
-use orb_bytes::trim_http_ws_end;
+use orb_bytes::{read_quoted, trim_http_ws_end};
 use std::alloc::{AllocError, Global};
 
 /// The value that a name is assigned, if any, and the text from the next `;` on.
@@ -37,32 +36,4 @@ fn plain_value(alloc: Global, field: &[u8]) -> Result<Option<Vec<u8>>, AllocErro
         return Ok(None);
     }
     Ok(Some(value.to_vec(alloc)?))
-}
-
-/// The value of the quoted string whose opening quote stands before the text, and what stands
-/// behind the string.
-fn read_quoted(alloc: Global, text: &[u8]) -> Result<(Vec<u8>, &[u8]), AllocError>
-    ensures { IfOk result (λ x. (units : List QuotedUnit) × (close : Close)
-        × ReadsQuoted text.now units close x.1.now × (x.0.items ≡ quoted_value units close)) }
-{
-    let mut value = Vec::new(alloc);
-    let mut rest = text;
-    'units: while let Some((first, behind)) = rest.split_first() {
-        match *first {
-            b'"' => return Ok((value, behind)),
-            b'\\' => {
-                let Some((byte, others)) = behind.split_first() else {
-                    value.push(b'\\')?;
-                    return Ok((value, behind));
-                };
-                value.push(*byte)?;
-                rest = others;
-            }
-            byte => {
-                value.push(byte)?;
-                rest = behind;
-            }
-        }
-    }
-    Ok((value, rest))
 }

@@ -1,4 +1,5 @@
 pub mod TrimLemmas
+pub mod QuotedLemmas
 pub mod DecimalLemmas
 pub mod HexadecimalLemmas
 pub mod RowSetLemmas

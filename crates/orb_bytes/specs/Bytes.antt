@@ -1,8 +1,13 @@
 -- Bytes, and the classes of bytes that the standards name. A class is a test of a number.
-use Rattle.std.specs.Prelude.{ℕ, Bool, ◌&&◌, ◌||◌, ◌==◌, ◌≡◌, true, nat_le, List, [], ◌∷◌, codes}
+use Rattle.std.specs.Prelude.{ℕ, Bool, ◌&&◌, ◌||◌, ◌==◌, ◌≡◌, true, false, nat_le, List, [], ◌∷◌, codes}
 use Rattle.std.specs.List.{list_all, list_any}
 use Rattle.std.specs.Char.{is_ascii_alphanumeric}
 use Rattle.orb_bytes.specs.Ascii.{tab, line_feed, form_feed, carriage_return, space, greater_than_sign, tilde, least_past_ascii, greatest_byte}
+
+-- the list has no element
+abbrev pub is_empty : {X : Type 0} → List X → Bool
+is_empty [] = true
+is_empty (x ∷ xs) = false
 
 -- the byte is one of these
 abbrev pub is_one_of : List ℕ → ℕ → Bool

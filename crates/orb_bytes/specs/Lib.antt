@@ -1,6 +1,7 @@
 pub mod Ascii
 pub mod Bytes
 pub mod Trim
+pub mod Quoted
 pub mod Decimal
 pub mod Fields
 pub mod Rows
