@@ -1,8 +1,8 @@
 -- The fields of one name, one field after the other.
 use Rattle.std.proofs.Common.{◌≡◌, ℕ, ◌+◌, ◌-◌, ◌<◌, ◌≤◌, Bool, true, false, List, [], ◌∷◌, ◌++◌, length, take, drop, get_or, All, slice_range, subst, length-drop, map, filter, sum_by, refl, sym, ap, ◌∙◌, append-nil, arith}
-use Rattle.std.proofs.lemmas.List.{take_more, take_all, map-append, length-take}
-use Rattle.std.proofs.lemmas.List.Sums.{sum_by_push}
-use Rattle.std.proofs.lemmas.List.Elements.{filter-append, All-push}
+use Rattle.std.proofs.lemmas.List.{take_more, take_all, take-append-drop, map-append, length-take}
+use Rattle.std.proofs.lemmas.List.Sums.{sum_by_push, sum_by-append}
+use Rattle.std.proofs.lemmas.List.Elements.{filter-append, All-push, All-get_or}
 use Rattle.orb_bytes.specs.Fields.{same_name, values_of}
 use Rattle.header_values.specs.declared.fields.FieldSpan.{FieldSpan}
 use Rattle.header_values.specs.Fields.{pair_at, pairs_of, field_size, IsFieldSpan, AreFields}
@@ -57,6 +57,29 @@ OfHeadTo-more head spans i size size' s d less is within more before =
       within = subst (All (IsFieldSpan (length head))) (sym longer) (All-push (IsFieldSpan (length head)) (take i spans) s before.within within);
       sum = omega (arith, before.sum);
     }
+
+-- fields up to a place take no more than all of them
+sums_within : (head : List ℕ) (spans : List FieldSpan) (i : ℕ)
+    → sum_by field_size (pairs_of head (take i spans)) ≤ sum_by field_size (pairs_of head spans)
+sums_within head spans i =
+    let parts : pairs_of head spans ≡ pairs_of head (take i spans) ++ pairs_of head (drop i spans) =
+    ap (pairs_of head) (sym (take-append-drop i spans)) ∙ map-append (pair_at head) (take i spans) (drop i spans) in
+    omega (arith, ap (sum_by field_size) parts, sum_by-append field_size (pairs_of head (take i spans)) (pairs_of head (drop i spans)))
+
+-- each span of a head lies in it
+pub AreFields-within : (head : List ℕ) (spans : List FieldSpan) (i : ℕ) (s d : FieldSpan) → i < length spans → s ≡ get_or spans i d
+    → AreFields head spans → IsFieldSpan (length head) s
+AreFields-within head spans i s d less is all =
+    subst (IsFieldSpan (length head)) (sym is) (All-get_or (IsFieldSpan (length head)) spans i d less all.within)
+
+-- the head has room for those up to a place and the next
+pub AreFields-room : (head : List ℕ) (spans : List FieldSpan) (i size : ℕ) (s d : FieldSpan) → i < length spans → s ≡ get_or spans i d
+    → OfHeadTo head spans i size → AreFields head spans
+    → size + (s.name_end - s.name_start + (s.value_end - s.value_start) + 2) ≤ length head
+AreFields-room head spans i size s d less is before all =
+    let within = AreFields-within head spans i s d less is all in
+    let after = OfHeadTo-more head spans i size (size + (s.name_end - s.name_start + (s.value_end - s.value_start) + 2)) s d less is within refl before in
+    omega (arith, after.sum, sums_within head spans (i + 1), all.fit)
 
 pub OfHeadTo-all : (head : List ℕ) (spans : List FieldSpan) (i size : ℕ) → length spans ≤ i → size ≤ length head
     → OfHeadTo head spans i size → AreFields head spans
