@@ -29,7 +29,7 @@ abbrev pub units_text : List NameUnit → List ℕ → List ℕ
 units_text [] rest = rest
 units_text (unit ∷ units) rest = unit_text unit (units_text units rest)
 
--- the window is `{`, a name in quotation_marks and `:`, each behind white space (RFC 8259 2), and any rest
+-- the window is `{`, a name in quotation marks and `:`, each behind white space (RFC 8259 2), and any rest
 pub record SniffsJson (window : List ℕ) : Type 0 where
   pub before_brace : List ℕ
   pub before_name : List ℕ

@@ -11,7 +11,7 @@ use Rattle.orb_bytes.specs.Quoted.{QuotedUnit, qdtext, quoted_pair, unit_text, i
 use Rattle.orb_bytes.proofs.QuotedLemmas.{stops_units, units_of}
 use Rattle.header_values.specs.declared.split.Place.{Place}
 use Rattle.header_values.specs.declared.split.Place.TheVariants.{Outside, Inside}
-use Rattle.header_values.specs.Parts.{Piece, bare, string, print_piece, is_piece, is_last, print_part, is_part, is_closed, print_parts, are_parts, IsCut, part_text}
+use Rattle.header_values.specs.Parts.{Piece, bare, string, piece_text, is_piece, is_last, part_text, is_part, is_closed, parts_text, are_parts, IsCut, trimmed_part}
 use Rattle.header_values.specs.Cuts.{HasOneCut, after, is_cut, put_first, cut_from, cuts_left, parts_of, parts_left_of}
 
 put_first-twice : (a b : List ℕ) (texts : List (List ℕ)) → put_first a (put_first b texts) ≡ put_first (a ++ b) texts
@@ -51,7 +51,7 @@ cut_from-units (u ∷ us) text are =
 
 -- a piece behind which the value may go on
 cut_from-piece : (p : Piece) (text : List ℕ) → is_piece p ≡ true → is_last p ≡ false
-    → cut_from Outside (print_piece p ++ text) ≡ put_first (print_piece p) (cut_from Outside text)
+    → cut_from Outside (piece_text p ++ text) ≡ put_first (piece_text p) (cut_from Outside text)
 cut_from-piece (bare b) text is goes_on =
     let plain = plain_unit (nat_eq b 44) (nat_eq b 34) is in rw (plain.0, plain.1) refl
 cut_from-piece (string us by_quote) text is goes_on =
@@ -62,7 +62,7 @@ cut_from-piece (string us by_end) text is goes_on = absurd (cc)
 cut_from-piece (string us by_backslash) text is goes_on = absurd (cc)
 
 -- a piece at the end of the value
-cut_from-last : (p : Piece) → is_piece p ≡ true → is_last p ≡ true → cut_from Outside (print_piece p) ≡ print_piece p ∷ []
+cut_from-last : (p : Piece) → is_piece p ≡ true → is_last p ≡ true → cut_from Outside (piece_text p) ≡ piece_text p ∷ []
 cut_from-last (bare b) is last = absurd (cc)
 cut_from-last (string us by_quote) is last = absurd (cc)
 cut_from-last (string us by_end) is last =
@@ -92,46 +92,46 @@ not_true false is = refl
 
 -- a part in front of a comma
 cut_from-part : (ps : List Piece) (text : List ℕ) → is_part ps ≡ true → is_closed ps ≡ true
-    → cut_from Outside (print_part ps ++ text) ≡ put_first (print_part ps) (cut_from Outside text)
+    → cut_from Outside (part_text ps ++ text) ≡ put_first (part_text ps) (cut_from Outside text)
 cut_from-part [] text are closed = sym (put_first-none (cut_from Outside text))
 cut_from-part (p ∷ ps) text are closed =
     let front = piece_by p ps are in
     let shut = and_parts (not (is_last p)) (is_closed ps) closed in
-    ap (cut_from Outside) (append_assoc (print_piece p) (print_part ps) text)
-    ∙ cut_from-piece p (print_part ps ++ text) front.valid (not_true (is_last p) shut.0)
-    ∙ ap (put_first (print_piece p)) (cut_from-part ps text front.others shut.1)
-    ∙ put_first-twice (print_piece p) (print_part ps) (cut_from Outside text)
+    ap (cut_from Outside) (append_assoc (piece_text p) (part_text ps) text)
+    ∙ cut_from-piece p (part_text ps ++ text) front.valid (not_true (is_last p) shut.0)
+    ∙ ap (put_first (piece_text p)) (cut_from-part ps text front.others shut.1)
+    ∙ put_first-twice (piece_text p) (part_text ps) (cut_from Outside text)
 
 -- the last part
-cut_from-end : (ps : List Piece) → is_part ps ≡ true → cut_from Outside (print_part ps) ≡ print_part ps ∷ []
+cut_from-end : (ps : List Piece) → is_part ps ≡ true → cut_from Outside (part_text ps) ≡ part_text ps ∷ []
 cut_from-end [] are = refl
 cut_from-end (p ∷ ps) are =
     let front = piece_by p ps are in
-    elim (is_last p) as (λ v. is_last p ≡ v → (not v || is_empty ps) ≡ true → cut_from Outside (print_part (p ∷ ps)) ≡ print_part (p ∷ ps) ∷ []) [
+    elim (is_last p) as (λ v. is_last p ≡ v → (not v || is_empty ps) ≡ true → cut_from Outside (part_text (p ∷ ps)) ≡ part_text (p ∷ ps) ∷ []) [
       | true ↦ λ last alone.
           let none : ps ≡ [] = no_piece ps alone in
-          let whole : print_part (p ∷ ps) ≡ print_piece p = ap (λ qs. print_piece p ++ print_part qs) none ∙ append-nil (print_piece p) in
+          let whole : part_text (p ∷ ps) ≡ piece_text p = ap (λ qs. piece_text p ++ part_text qs) none ∙ append-nil (piece_text p) in
           ap (cut_from Outside) whole ∙ cut_from-last p front.valid last ∙ ap (λ t. t ∷ []) (sym whole)
       | false ↦ λ goes_on alone.
-          cut_from-piece p (print_part ps) front.valid goes_on ∙ ap (put_first (print_piece p)) (cut_from-end ps front.others)
+          cut_from-piece p (part_text ps) front.valid goes_on ∙ ap (put_first (piece_text p)) (cut_from-end ps front.others)
     ] refl front.alone
 
 -- the walk finds the parts
-cut_from-parts : (parts : List (List Piece)) → are_parts parts ≡ true → cut_from Outside (print_parts parts) ≡ map print_part parts
+cut_from-parts : (parts : List (List Piece)) → are_parts parts ≡ true → cut_from Outside (parts_text parts) ≡ map part_text parts
 cut_from-parts [] are = absurd (cc)
 cut_from-parts (part ∷ []) are = cut_from-end part are
 cut_from-parts (part ∷ (next ∷ parts)) are =
     let front = and_parts (is_part part && is_closed part) (are_parts (next ∷ parts)) are in
     let valid = and_parts (is_part part) (is_closed part) front.0 in
-    cut_from-part part (44 ∷ print_parts (next ∷ parts)) valid.0 valid.1
-    ∙ ap (λ t. t ∷ cut_from Outside (print_parts (next ∷ parts))) (append-nil (print_part part))
-    ∙ ap (λ texts. print_part part ∷ texts) (cut_from-parts (next ∷ parts) front.1)
+    cut_from-part part (44 ∷ parts_text (next ∷ parts)) valid.0 valid.1
+    ∙ ap (λ t. t ∷ cut_from Outside (parts_text (next ∷ parts))) (append-nil (part_text part))
+    ∙ ap (λ texts. part_text part ∷ texts) (cut_from-parts (next ∷ parts) front.1)
 
-trimmed_parts : (parts : List (List Piece)) → map (trimmed is_tab_or_space) (map print_part parts) ≡ map part_text parts
+trimmed_parts : (parts : List (List Piece)) → map (trimmed is_tab_or_space) (map part_text parts) ≡ map trimmed_part parts
 trimmed_parts [] = refl
-trimmed_parts (part ∷ parts) = ap (λ texts. part_text part ∷ texts) (trimmed_parts parts)
+trimmed_parts (part ∷ parts) = ap (λ texts. trimmed_part part ∷ texts) (trimmed_parts parts)
 
-cut_is : (value : List ℕ) (parts : List (List Piece)) → IsCut value parts → parts_of value ≡ map part_text parts
+cut_is : (value : List ℕ) (parts : List (List Piece)) → IsCut value parts → parts_of value ≡ map trimmed_part parts
 unfolding parts_of
 cut_is value parts cut =
     ap (λ text. map (trimmed is_tab_or_space) (cut_from Outside text)) cut.whole
@@ -148,13 +148,13 @@ with_piece : Piece → List (List Piece) → List (List Piece)
 with_piece p [] = []
 with_piece p (part ∷ parts) = (p ∷ part) ∷ parts
 
-print-with_piece : (p : Piece) (parts : List (List Piece)) → are_parts parts ≡ true
-    → print_parts (with_piece p parts) ≡ print_piece p ++ print_parts parts
+text-with_piece : (p : Piece) (parts : List (List Piece)) → are_parts parts ≡ true
+    → parts_text (with_piece p parts) ≡ piece_text p ++ parts_text parts
 unfolding with_piece
-print-with_piece p [] are = absurd (cc)
-print-with_piece p (part ∷ []) are = refl
-print-with_piece p (part ∷ (next ∷ parts)) are =
-    append_assoc (print_piece p) (print_part part) (44 ∷ print_parts (next ∷ parts))
+text-with_piece p [] are = absurd (cc)
+text-with_piece p (part ∷ []) are = refl
+text-with_piece p (part ∷ (next ∷ parts)) are =
+    append_assoc (piece_text p) (part_text part) (44 ∷ parts_text (next ∷ parts))
 
 part-with : (p : Piece) (part : List Piece) → is_piece p ≡ true → is_last p ≡ false → is_part part ≡ true → is_part (p ∷ part) ≡ true
 part-with p part valid goes_on are =
@@ -173,20 +173,20 @@ are-with_piece p (part ∷ (next ∷ parts)) valid goes_on are =
     (and_from (is_part (p ∷ part)) (is_closed (p ∷ part)) (part-with p part valid goes_on both.0)
     (and_from (not (is_last p)) (is_closed part) (ap not goes_on) both.1)) front.1
 
-cut-piece : (p : Piece) (text : List ℕ) → is_piece p ≡ true → is_last p ≡ false → CutOf text → CutOf (print_piece p ++ text)
+cut-piece : (p : Piece) (text : List ℕ) → is_piece p ≡ true → is_last p ≡ false → CutOf text → CutOf (piece_text p ++ text)
 cut-piece p text valid goes_on rest = record {
   parts = with_piece p rest.parts;
   is = record {
-    whole = ap (λ back. print_piece p ++ back) rest.is.whole ∙ sym (print-with_piece p rest.parts rest.is.are);
+    whole = ap (λ back. piece_text p ++ back) rest.is.whole ∙ sym (text-with_piece p rest.parts rest.is.are);
     are = are-with_piece p rest.parts valid goes_on rest.is.are;
   };
 }
 
-cut-last : (p : Piece) → is_piece p ≡ true → CutOf (print_piece p)
+cut-last : (p : Piece) → is_piece p ≡ true → CutOf (piece_text p)
 cut-last p valid = record {
   parts = (p ∷ []) ∷ [];
   is = record {
-    whole = sym (append-nil (print_piece p));
+    whole = sym (append-nil (piece_text p));
     are = and_from (is_piece p) ((not (is_last p) || true) && true) valid (either (not (is_last p)));
   };
 } where
@@ -211,14 +211,14 @@ cut-string text us [] are stops whole more =
 cut-string text us (b ∷ rest) are stops whole more =
     elim (eqb_tells b 34) [
       | inl quote ↦
-          let same : print_piece (string us by_quote) ++ rest ≡ 34 ∷ text =
+          let same : piece_text (string us by_quote) ++ rest ≡ 34 ∷ text =
           ap (λ t. 34 ∷ t) (append_assoc (flat_map unit_text us) (34 ∷ []) rest ∙ ap (λ c. flat_map unit_text us ++ (c ∷ rest)) (sym quote.1) ∙ sym whole) in
           subst CutOf same (cut-piece (string us by_quote) rest are refl (more rest (omega arith)))
       | inr unquoted ↦
           let slash = and_parts (nat_eq b 92) (is_empty rest) (ap (λ v. v || (nat_eq b 92 && is_empty rest)) (sym unquoted.0) ∙ stops) in
           let is : b ≡ 92 = eqb-true b 92 slash.0 in
           let none : rest ≡ [] = nothing rest slash.1 in
-          let same : print_piece (string us by_backslash) ≡ 34 ∷ text =
+          let same : piece_text (string us by_backslash) ≡ 34 ∷ text =
           ap (λ t. 34 ∷ t) (ap (λ t. flat_map unit_text us ++ (92 ∷ t)) (sym none) ∙ ap (λ c. flat_map unit_text us ++ (c ∷ rest)) (sym is) ∙ sym whole) in
           subst CutOf same (cut-last (string us by_backslash) are)
     ] where

@@ -7,7 +7,7 @@ use Rattle.orb_bytes.specs.Bytes.{is_empty, is_http_whitespace, is_token_byte}
 use Rattle.orb_bytes.specs.Quoted.{unit_text, is_unit, Close, by_quote, by_end, by_backslash, close_text, is_at_end}
 use Rattle.orb_bytes.proofs.QuotedLemmas.{stops_units, units_unique}
 use Rattle.mime_types.specs.Spans.{begins_outside}
-use Rattle.mime_types.specs.Mime.{Assigned, nothing, quoted, plain, print_assigned, is_no_semicolon, is_assigned, is_last, Segment, print_segment, is_name_byte, is_segment, print_segments, are_segments, is_token, Cut, IsCut, mime_of, HasOneRecord}
+use Rattle.mime_types.specs.Mime.{Assigned, nothing, quoted, plain, assigned_text, is_no_semicolon, is_assigned, is_last, Segment, segment_text, is_name_byte, is_segment, segments_text, are_segments, is_token, Cut, IsCut, mime_of, HasOneRecord}
 use Rattle.mime_types.proofs.SpanLemmas.{span_unique}
 use Rattle.mime_types.proofs.BoolLemmas.{true_from_not_not}
 
@@ -74,7 +74,7 @@ never_equals r x out same =
 pub assigned_unique : (f g : Assigned) (r q : List ℕ) → is_assigned f ≡ true → is_assigned g ≡ true
     → (is_last f ≡ true → r ≡ []) → (is_last g ≡ true → q ≡ [])
     → begins_outside is_no_semicolon r ≡ true → begins_outside is_no_semicolon q ≡ true
-    → print_assigned f ++ r ≡ print_assigned g ++ q → (f ≡ g) × (r ≡ q)
+    → assigned_text f ++ r ≡ assigned_text g ++ q → (f ≡ g) × (r ≡ q)
 assigned_unique nothing nothing r q is_f is_g end_r end_q out_r out_q same = (refl, same)
 assigned_unique nothing (quoted us c i) r q is_f is_g end_r end_q out_r out_q same =
     absurd (never_equals r _ out_r same)
@@ -118,7 +118,7 @@ is_semicolon b r out = eqb-true b 59 (true_from_not_not (nat_eq b 59) out)
 
 -- what stands behind a name doesn't go on with it
 pub assigned_begins : (f : Assigned) (r : List ℕ) → begins_outside is_no_semicolon r ≡ true
-    → begins_outside is_name_byte (print_assigned f ++ r) ≡ true
+    → begins_outside is_name_byte (assigned_text f ++ r) ≡ true
 assigned_begins nothing [] out = refl
 assigned_begins nothing (b ∷ r) out =
     ap (λ e. begins_outside is_name_byte (e ∷ r)) (is_semicolon b r out)
@@ -128,7 +128,7 @@ assigned_begins (plain v) r out = refl
 -- what stands behind the white space of a segment is no white space
 pub name_begins : (name : List ℕ) (f : Assigned) (r : List ℕ) → begins_outside is_http_whitespace name ≡ true
     → begins_outside is_no_semicolon r ≡ true
-    → begins_outside is_http_whitespace (name ++ (print_assigned f ++ r)) ≡ true
+    → begins_outside is_http_whitespace (name ++ (assigned_text f ++ r)) ≡ true
 name_begins [] nothing [] outside out = refl
 name_begins [] nothing (b ∷ r) outside out =
     ap (λ e. begins_outside is_http_whitespace (e ∷ r)) (is_semicolon b r out)
@@ -153,12 +153,12 @@ parts_of s is =
 pub segment_unique : (s t : Segment) (r q : List ℕ) → is_segment s ≡ true → is_segment t ≡ true
     → (is_last s.assigned ≡ true → r ≡ []) → (is_last t.assigned ≡ true → q ≡ [])
     → begins_outside is_no_semicolon r ≡ true → begins_outside is_no_semicolon q ≡ true
-    → print_segment s ++ r ≡ print_segment t ++ q → (s ≡ t) × (r ≡ q)
+    → segment_text s ++ r ≡ segment_text t ++ q → (s ≡ t) × (r ≡ q)
 segment_unique s t r q is_s is_t end_r end_q out_r out_q same =
     let of_s = parts_of s is_s in
     let of_t = parts_of t is_t in
-    let inner : (s.space ++ (s.name ++ print_assigned s.assigned)) ++ r ≡ (t.space ++ (t.name ++ print_assigned t.assigned)) ++ q = cc in
-    let regrouped : s.space ++ (s.name ++ (print_assigned s.assigned ++ r)) ≡ t.space ++ (t.name ++ (print_assigned t.assigned ++ q)) =
+    let inner : (s.space ++ (s.name ++ assigned_text s.assigned)) ++ r ≡ (t.space ++ (t.name ++ assigned_text t.assigned)) ++ q = cc in
+    let regrouped : s.space ++ (s.name ++ (assigned_text s.assigned ++ r)) ≡ t.space ++ (t.name ++ (assigned_text t.assigned ++ q)) =
     simp append_assoc at inner in
     let spaces = span_unique is_http_whitespace s.space t.space _ _ of_s.space of_t.space
     (name_begins s.name s.assigned r of_s.begins out_r) (name_begins t.name t.assigned q of_t.begins out_q) regrouped in
@@ -170,14 +170,14 @@ segment_unique s t r q is_s is_t end_r end_q out_r out_q same =
     let same_assigned : s.assigned ≡ t.assigned = assigned.0 in
     (λ i. record { space = same_space i; name = same_name i; assigned = same_assigned i }, assigned.1)
 
-pub segments_begin : (ss : List Segment) → begins_outside is_no_semicolon (print_segments ss) ≡ true
+pub segments_begin : (ss : List Segment) → begins_outside is_no_semicolon (segments_text ss) ≡ true
 segments_begin [] = refl
 segments_begin (s ∷ ss) = refl
 
 -- what the validity of segments says of the first
 pub record AreFirst (s : Segment) (ss : List Segment) : Type 0 where
   pub first : is_segment s ≡ true
-  pub last : is_last s.assigned ≡ true → print_segments ss ≡ []
+  pub last : is_last s.assigned ≡ true → segments_text ss ≡ []
   pub rest : are_segments ss ≡ true
 
 never_last : (last : Bool) → (not last || false) ≡ true → last ≡ true → ⊥
@@ -192,14 +192,14 @@ first_of s (t ∷ ss) are =
     record { first = first.0; last = λ is. absurd (never_last (is_last s.assigned) more.0 is); rest = more.1 }
 
 pub segments_unique : (ss ts : List Segment) → are_segments ss ≡ true → are_segments ts ≡ true
-    → print_segments ss ≡ print_segments ts → ss ≡ ts
+    → segments_text ss ≡ segments_text ts → ss ≡ ts
 segments_unique [] [] are_ss are_ts same = refl
 segments_unique [] (t ∷ ts) are_ss are_ts same = absurd (cc)
 segments_unique (s ∷ ss) [] are_ss are_ts same = absurd (cc)
 segments_unique (s ∷ ss) (t ∷ ts) are_ss are_ts same =
     let of_s = first_of s ss are_ss in
     let of_t = first_of t ts are_ts in
-    let firsts = segment_unique s t (print_segments ss) (print_segments ts) of_s.first of_t.first of_s.last of_t.last
+    let firsts = segment_unique s t (segments_text ss) (segments_text ts) of_s.first of_t.first of_s.last of_t.last
     (segments_begin ss) (segments_begin ts) same in
     let rests = segments_unique ss ts of_s.rest of_t.rest firsts.1 in
     let same_first : s ≡ t = firsts.0 in
@@ -262,13 +262,13 @@ token_bytes text token = (and_parts (not (is_empty text)) (list_all is_token_byt
 
 -- what stands behind the subtype is no token byte
 pub space_begins : (space : List ℕ) (ss : List Segment) → list_all is_http_whitespace space ≡ true
-    → begins_outside is_token_byte (space ++ print_segments ss) ≡ true
+    → begins_outside is_token_byte (space ++ segments_text ss) ≡ true
 space_begins [] [] are = refl
 space_begins [] (s ∷ ss) are = refl
 space_begins (b ∷ space) ss are =
     space_no_token b (and_parts (is_http_whitespace b) (list_all is_http_whitespace space) are).0
 
-pub segments_outside : (ss : List Segment) → begins_outside is_http_whitespace (print_segments ss) ≡ true
+pub segments_outside : (ss : List Segment) → begins_outside is_http_whitespace (segments_text ss) ≡ true
 segments_outside [] = refl
 segments_outside (s ∷ ss) = refl
 
@@ -278,7 +278,7 @@ cut_unique text c d of_c of_d =
     (class_within is_token_byte is_no_slash c.main token_no_slash (token_bytes c.main of_c.main))
     (class_within is_token_byte is_no_slash d.main token_no_slash (token_bytes d.main of_d.main))
     refl refl (sym of_c.whole ∙ of_d.whole) in
-    let behind : c.sub ++ (c.space ++ print_segments c.segments) ≡ d.sub ++ (d.space ++ print_segments d.segments) = cc in
+    let behind : c.sub ++ (c.space ++ segments_text c.segments) ≡ d.sub ++ (d.space ++ segments_text d.segments) = cc in
     let subs = span_unique is_token_byte c.sub d.sub _ _ (token_bytes c.sub of_c.sub) (token_bytes d.sub of_d.sub)
     (space_begins c.space c.segments of_c.space) (space_begins d.space d.segments of_d.space) behind in
     let spaces = span_unique is_http_whitespace c.space d.space _ _ of_c.space of_d.space

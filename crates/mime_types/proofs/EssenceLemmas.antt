@@ -7,7 +7,7 @@ use Rattle.std.proofs.lemmas.Bool.{and_parts, and_from}
 use Rattle.orb_bytes.specs.Bytes.{is_token_byte, is_http_whitespace}
 use Rattle.orb_bytes.specs.Trim.{trimmed, without_trailing}
 use Rattle.mime_types.specs.Spans.{Spans}
-use Rattle.mime_types.specs.Mime.{is_token, is_no_semicolon, Cut, IsCut, mime_of, IsMime, HasNoMime, IsEssence, WritesEssence, print_segments}
+use Rattle.mime_types.specs.Mime.{is_token, is_no_semicolon, Cut, IsCut, mime_of, IsMime, HasNoMime, IsEssence, WritesEssence, segments_text}
 use Rattle.mime_types.specs.Reading.{ReadsEssence, ReadsParameters}
 use Rattle.mime_types.proofs.SpanLemmas.{span_unique}
 use Rattle.mime_types.proofs.CutLemmas.{is_no_slash, token_no_slash, token_no_semicolon, token_no_space, space_no_semicolon, class_within, token_bytes, segments_begin}
@@ -24,7 +24,7 @@ pub needs_slash : (text inner : List ℕ) → inner ≡ trimmed is_http_whitespa
     → HasNoMime text
 needs_slash text inner trim none mime is =
     let cut = is.0 in
-    let behind = 47 ∷ (cut.sub ++ (cut.space ++ print_segments cut.segments)) in
+    let behind = 47 ∷ (cut.sub ++ (cut.space ++ segments_text cut.segments)) in
     let all : list_all is_no_slash (cut.main ++ behind) ≡ true = ap (list_all is_no_slash) (sym is.1.whole ∙ sym trim) ∙ none in
     let parts = and_parts (list_all is_no_slash cut.main) (list_all is_no_slash behind) (sym (list_all-append is_no_slash cut.main behind) ∙ all) in
     let lie : false ≡ true = parts.1 in cc
@@ -38,15 +38,15 @@ essence_only text inner main behind field tail sub cut is trim whole slash spans
     let mains = span_unique is_no_slash cut.main main _ _
     (class_within is_token_byte is_no_slash cut.main token_no_slash (token_bytes cut.main is.main)) slash
     refl refl (sym is.whole ∙ sym trim ∙ whole) in
-    let rest : cut.sub ++ (cut.space ++ print_segments cut.segments) ≡ behind = cc in
+    let rest : cut.sub ++ (cut.space ++ segments_text cut.segments) ≡ behind = cc in
     let inside : list_all is_no_semicolon (cut.sub ++ cut.space) ≡ true =
     list_all-append is_no_semicolon cut.sub cut.space
     ∙ and_from (list_all is_no_semicolon cut.sub) (list_all is_no_semicolon cut.space)
     (class_within is_token_byte is_no_semicolon cut.sub token_no_semicolon (token_bytes cut.sub is.sub))
     (class_within is_http_whitespace is_no_semicolon cut.space space_no_semicolon is.space) in
-    let subs = span_unique is_no_semicolon (cut.sub ++ cut.space) field (print_segments cut.segments) tail inside spans.inside
+    let subs = span_unique is_no_semicolon (cut.sub ++ cut.space) field (segments_text cut.segments) tail inside spans.inside
     (segments_begin cut.segments) spans.stops
-    (append_assoc cut.sub cut.space (print_segments cut.segments) ∙ rest ∙ spans.whole) in
+    (append_assoc cut.sub cut.space (segments_text cut.segments) ∙ rest ∙ spans.whole) in
     let no_space = class_within is_token_byte (λ b. not (is_http_whitespace b)) cut.sub
     (λ b token. ap not (token_no_space b token)) (token_bytes cut.sub is.sub) in (
       mains.0,

@@ -2,7 +2,7 @@
 use Rattle.std.proofs.Common.{◌≡◌, ℕ, Bool, true, false, not, ◌&&◌, ◌||◌, List, [], ◌∷◌, ◌++◌, filter, bytes_eq, Some, None, refl, sym, ap, ◌∙◌, append_assoc, append-nil, if◌then◌else◌}
 use Rattle.std.specs.List.{list_all, filter_map, cons_option}
 use Rattle.std.proofs.lemmas.List.Folds.{list_any-append}
-use Rattle.mime_types.specs.Mime.{Segment, print_segments, are_segments, pair_of, is_parameter, first_of_each, parameters_of}
+use Rattle.mime_types.specs.Mime.{Segment, segments_text, are_segments, pair_of, is_parameter, first_of_each, parameters_of}
 use Rattle.mime_types.specs.Records.{has_name}
 use Rattle.mime_types.specs.Reading.{ReadsSegment, ReadsParameters, kept_with}
 use Rattle.mime_types.proofs.NameLemmas.{is_new, is_other, same_text, bytes_eq-sym, filter_within, filter_both, filter_all}
@@ -78,8 +78,8 @@ keep_all_parameters segments =
 -- whatever the rest of the text stands for completes what is kept
 abbrev pub KeepsFor : List ℕ → List (List ℕ × List ℕ) → List ℕ → Type 0
 KeepsFor text kept rest =
-    (segments : List Segment) → are_segments segments ≡ true → rest ≡ print_segments segments
-    → (all : List Segment) × (are_segments all ≡ true) × (text ≡ print_segments all)
+    (segments : List Segment) → are_segments segments ≡ true → rest ≡ segments_text segments
+    → (all : List Segment) × (are_segments all ≡ true) × (text ≡ segments_text all)
     × (keep_all kept segments ≡ parameters_of all)
 
 pub keeps_none : (text : List ℕ) → KeepsFor text [] text

@@ -7,7 +7,7 @@ use Rattle.orb_bytes.specs.Trim.{without_leading}
 use Rattle.orb_bytes.proofs.TrimLemmas.{leading_of}
 use Rattle.orb_bytes.specs.Quoted.{QuotedUnit, unit_text, is_unit, Close, by_quote, by_end, by_backslash, close_text, is_at_end, ReadsQuoted}
 use Rattle.mime_types.specs.Spans.{begins_outside, Spans}
-use Rattle.mime_types.specs.Mime.{Assigned, nothing, quoted, plain, is_assigned, is_last, is_no_semicolon, is_name_byte, Segment, is_segment, print_segment, print_segments, are_segments}
+use Rattle.mime_types.specs.Mime.{Assigned, nothing, quoted, plain, is_assigned, is_last, is_no_semicolon, is_name_byte, Segment, is_segment, segment_text, segments_text, are_segments}
 use Rattle.mime_types.specs.Reading.{ReadsAssigned, ReadsSegment}
 use Rattle.mime_types.proofs.TrailingLemmas.{without_leading_begins}
 use Rattle.mime_types.proofs.CutLemmas.{is_semicolon}
@@ -102,7 +102,7 @@ reads_segment text named name behind rest assigned trim spans reads =
     )
 
 -- no segments are printed as nothing
-none_printed : (ss : List Segment) → print_segments ss ≡ [] → is_empty ss ≡ true
+none_printed : (ss : List Segment) → segments_text ss ≡ [] → is_empty ss ≡ true
 none_printed [] none = refl
 none_printed (s ∷ ss) none = absurd (cc)
 
@@ -113,13 +113,13 @@ last_alone false alone rule = refl
 
 -- a segment in front of others
 pub more_segments : (text rest : List ℕ) (s : Segment) (segments : List Segment) → ReadsSegment text s rest
-    → are_segments segments ≡ true → rest ≡ print_segments segments
-    → (are_segments (s ∷ segments) ≡ true) × (text ≡ print_segments (s ∷ segments))
+    → are_segments segments ≡ true → rest ≡ segments_text segments
+    → (are_segments (s ∷ segments) ≡ true) × (text ≡ segments_text (s ∷ segments))
 more_segments text rest s segments reads are whole = (
   and_from (is_segment s) ((not (is_last s.assigned) || is_empty segments) && are_segments segments) reads.valid
       (and_from (not (is_last s.assigned) || is_empty segments) (are_segments segments)
       (last_alone (is_last s.assigned) (is_empty segments) (λ last. none_printed segments (sym whole ∙ reads.last last))) are),
-  reads.whole ∙ ap (λ back. print_segment s ++ back) whole,
+  reads.whole ∙ ap (λ back. segment_text s ++ back) whole,
 )
 
 -- a tail that is not empty begins with `;`

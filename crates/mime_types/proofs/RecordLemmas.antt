@@ -8,7 +8,7 @@ use Rattle.std.proofs.lemmas.List.Folds.{list_all-append, list_any-append}
 use Rattle.std.proofs.lemmas.Bool.Decides.{nat_tests}
 use Rattle.orb_bytes.specs.Bytes.{is_token_byte, is_quoted_token_byte, is_one_of}
 use Rattle.mime_types.specs.Mime.{Mime, Segment, pair_of, assigned_value, is_token, is_parameter, first_of_each, Cut, IsCut, mime_of, IsMime}
-use Rattle.mime_types.specs.Records.{is_small_token, is_small_parameter, has_name, names_differ, IsRecord, value_of}
+use Rattle.mime_types.specs.Records.{is_lowercase_token, is_lowercase_parameter, has_name, names_differ, IsRecord, value_of}
 use Rattle.mime_types.specs.declared.parameters.Parameter.{Parameter}
 use Rattle.mime_types.specs.Stored.{pairs_in, record_in}
 use Rattle.mime_types.proofs.NameLemmas.{is_other, bytes_eq-sym, list_all-filter, list_all-filter_same, list_any-filter, list_any-filter_not}
@@ -49,7 +49,7 @@ lower_tokens (b ∷ text) are =
     (lower_token b parts.0) (lower_tokens text parts.1)
 
 -- a token in small letters
-pub lower_small_token : (text : List ℕ) → is_token text ≡ true → is_small_token (str_to_ascii_lowercase text) ≡ true
+pub lower_small_token : (text : List ℕ) → is_token text ≡ true → is_lowercase_token (str_to_ascii_lowercase text) ≡ true
 lower_small_token [] token = absurd (cc)
 lower_small_token (b ∷ text) token =
     and_from (is_token (str_to_ascii_lowercase (b ∷ text))) (list_all (λ b. not (is_ascii_uppercase b)) (str_to_ascii_lowercase (b ∷ text)))
@@ -69,14 +69,14 @@ pairs_are_small (s ∷ segments) =
     ]
 
 small_parameters : (pairs : List (List ℕ × List ℕ)) → list_all has_small_name pairs ≡ true → list_all is_parameter pairs ≡ true
-    → list_all is_small_parameter pairs ≡ true
+    → list_all is_lowercase_parameter pairs ≡ true
 small_parameters [] small are = refl
 small_parameters (pair ∷ pairs) small are =
     let smalls = and_parts (has_small_name pair) (list_all has_small_name pairs) small in
     let ares = and_parts (is_parameter pair) (list_all is_parameter pairs) are in
     let parts = and_parts (is_token pair.0) (list_all is_quoted_token_byte pair.1) ares.0 in
-    and_from (is_small_parameter pair) (list_all is_small_parameter pairs)
-    (and_from (is_small_token pair.0) (list_all is_quoted_token_byte pair.1)
+    and_from (is_lowercase_parameter pair) (list_all is_lowercase_parameter pairs)
+    (and_from (is_lowercase_token pair.0) (list_all is_quoted_token_byte pair.1)
     (and_from (is_token pair.0) (has_small_name pair) parts.0 smalls.0) parts.1)
     (small_parameters pairs smalls.1 ares.1)
 
@@ -114,7 +114,7 @@ cut_is_record text cut is =
     record {
       main = lower_small_token cut.main is.main;
       sub = lower_small_token cut.sub is.sub;
-      parameters = first_of_each_all is_small_parameter (filter is_parameter pairs)
+      parameters = first_of_each_all is_lowercase_parameter (filter is_parameter pairs)
           (small_parameters (filter is_parameter pairs)
           (list_all-filter has_small_name is_parameter pairs (pairs_are_small cut.segments))
           (list_all-filter_same is_parameter pairs));
@@ -140,16 +140,16 @@ names_differ-push (first ∷ pairs) pair differ new =
     (names_differ-push pairs pair parts.1 news.1)
 
 -- a valid record with one parameter more
-pub record_grows : (m : Mime) (name value : List ℕ) → IsRecord m → is_small_token name ≡ true
+pub record_grows : (m : Mime) (name value : List ℕ) → IsRecord m → is_lowercase_token name ≡ true
     → list_all is_quoted_token_byte value ≡ true → has_name name m.parameters ≡ false
     → IsRecord (record m { parameters = m.parameters ++ (name, value) ∷ [] })
 record_grows m name value is name_is value_is new = record {
   main = is.main;
   sub = is.sub;
-  parameters = list_all-append is_small_parameter m.parameters ((name, value) ∷ [])
-      ∙ and_from (list_all is_small_parameter m.parameters) (is_small_parameter (name, value) && true) is.parameters
-      (and_from (is_small_parameter (name, value)) true
-      (and_from (is_small_token name) (list_all is_quoted_token_byte value) name_is value_is) refl);
+  parameters = list_all-append is_lowercase_parameter m.parameters ((name, value) ∷ [])
+      ∙ and_from (list_all is_lowercase_parameter m.parameters) (is_lowercase_parameter (name, value) && true) is.parameters
+      (and_from (is_lowercase_parameter (name, value)) true
+      (and_from (is_lowercase_token name) (list_all is_quoted_token_byte value) name_is value_is) refl);
   names = names_differ-push m.parameters (name, value) is.names new;
 }
 
@@ -171,17 +171,17 @@ no_value_new name (pair ∷ pairs) none =
     ] refl
 
 -- a value that is found can stand between quotes
-pub value_is_quoted : (name value : List ℕ) (pairs : List (List ℕ × List ℕ)) → list_all is_small_parameter pairs ≡ true
+pub value_is_quoted : (name value : List ℕ) (pairs : List (List ℕ × List ℕ)) → list_all is_lowercase_parameter pairs ≡ true
     → value_of name pairs ≡ Some value → list_all is_quoted_token_byte value ≡ true
 value_is_quoted name value [] are found = absurd (cc)
 value_is_quoted name value (pair ∷ pairs) are found =
-    let parts = and_parts (is_small_parameter pair) (list_all is_small_parameter pairs) are in
+    let parts = and_parts (is_lowercase_parameter pair) (list_all is_lowercase_parameter pairs) are in
     elim (bytes_eq pair.0 name) as (λ v. bytes_eq pair.0 name ≡ v → list_all is_quoted_token_byte value ≡ true) [
       | true ↦ λ same.
           let is : Some pair.1 ≡ Some value = sym (value_found name pair pairs same) ∙ found in
           let inner : pair.1 ≡ value = cc in
           ap (list_all is_quoted_token_byte) (sym inner)
-          ∙ (and_parts (is_small_token pair.0) (list_all is_quoted_token_byte pair.1) parts.0).1
+          ∙ (and_parts (is_lowercase_token pair.0) (list_all is_quoted_token_byte pair.1) parts.0).1
       | false ↦ λ differ.
           value_is_quoted name value pairs parts.1 (sym (value_behind name pair pairs differ) ∙ found)
     ] refl
@@ -189,7 +189,7 @@ value_is_quoted name value (pair ∷ pairs) are found =
 -- the record in memory, where a parameter was added or none could be
 pub stored_grows : {T E : Type 0} (r : Result T E) (main sub : List ℕ) (old new : List Parameter) (m : Mime) (name value : List ℕ)
     → OnOk r (pairs_in new ≡ pairs_in old ++ (name, value) ∷ []) → OnErr r (new ≡ old)
-    → record_in main sub old ≡ m → IsRecord (record_in main sub old) → is_small_token name ≡ true
+    → record_in main sub old ≡ m → IsRecord (record_in main sub old) → is_lowercase_token name ≡ true
     → list_all is_quoted_token_byte value ≡ true → has_name name m.parameters ≡ false → IsRecord (record_in main sub new)
 stored_grows (Ok x) main sub old new m name value added kept view is name_is value_is fresh =
     subst (λ pairs. IsRecord (record { main = main; sub = sub; parameters = pairs })) (sym added)

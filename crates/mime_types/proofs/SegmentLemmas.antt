@@ -5,7 +5,7 @@ use Rattle.orb_bytes.specs.Bytes.{is_http_whitespace}
 use Rattle.orb_bytes.specs.Trim.{without_leading}
 use Rattle.orb_bytes.proofs.QuotedLemmas.{quoted_of}
 use Rattle.mime_types.specs.Spans.{begins_outside}
-use Rattle.mime_types.specs.Mime.{print_assigned, is_no_semicolon, Assigned, nothing, quoted, plain, Segment, is_name_byte, print_segments, are_segments}
+use Rattle.mime_types.specs.Mime.{assigned_text, is_no_semicolon, Assigned, nothing, quoted, plain, Segment, is_name_byte, segments_text, are_segments}
 use Rattle.mime_types.specs.Reading.{ReadsAssigned, ReadsSegment}
 use Rattle.mime_types.proofs.SpanLemmas.{span_of}
 use Rattle.mime_types.proofs.CutLemmas.{is_semicolon}
@@ -44,7 +44,7 @@ assigned_of (b ∷ text) begins =
 pub record SegmentsOf (tail : List ℕ) : Type 0 where
   pub segments : List Segment
   pub are : are_segments segments ≡ true
-  pub whole : tail ≡ print_segments segments
+  pub whole : tail ≡ segments_text segments
 
 -- one segment more
 one_more : (b : ℕ) (tail rest : List ℕ) (s : Segment) → b ≡ 59 → ReadsSegment (59 ∷ tail) s rest → SegmentsOf rest → SegmentsOf (b ∷ tail)
@@ -60,7 +60,7 @@ segments_within (suc most) (b ∷ tail) within begins =
     let name = span_of is_name_byte (without_leading is_http_whitespace tail) in
     let assigned = assigned_of name.1 name.2.stops in
     let segment = reads_segment tail (without_leading is_http_whitespace tail) name.0 name.1 assigned.1 assigned.0 refl name.2 assigned.2 in
-    let inner : tail ≡ (segment.0 ++ (name.0 ++ print_assigned assigned.0)) ++ assigned.1 = let whole = segment.1.whole in cc in
+    let inner : tail ≡ (segment.0 ++ (name.0 ++ assigned_text assigned.0)) ++ assigned.1 = let whole = segment.1.whole in cc in
     let shorter : length assigned.1 ≤ most = omega (arith, simp length-append at (ap length inner)) in
     one_more b tail assigned.1 (record { space = segment.0; name = name.0; assigned = assigned.0 }) (is_semicolon b tail begins) segment.1
     (segments_within most assigned.1 shorter segment.1.begins)

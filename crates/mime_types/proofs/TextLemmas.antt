@@ -11,8 +11,8 @@ use Rattle.orb_bytes.proofs.TrimLemmas.{without_leading-stop, without_trailing-s
 use Rattle.orb_bytes.specs.Quoted.{is_unit, unit_value, by_quote, quoted_byte}
 use Rattle.orb_bytes.proofs.QuotedLemmas.{unit_of, units_print, units_stand, units_are}
 use Rattle.mime_types.specs.Spans.{begins_outside}
-use Rattle.mime_types.specs.Mime.{Mime, is_token, Assigned, quoted, plain, print_assigned, is_assigned, is_last, assigned_value, unless_empty, is_no_semicolon, is_name_byte, Segment, is_segment, print_segments, are_segments, pair_of, is_parameter, first_of_each, parameters_of, Cut, IsMime}
-use Rattle.mime_types.specs.Records.{is_small_token, is_small_parameter, has_name, names_differ, IsRecord}
+use Rattle.mime_types.specs.Mime.{Mime, is_token, Assigned, quoted, plain, assigned_text, is_assigned, is_last, assigned_value, unless_empty, is_no_semicolon, is_name_byte, Segment, is_segment, segments_text, are_segments, pair_of, is_parameter, first_of_each, parameters_of, Cut, IsMime}
+use Rattle.mime_types.specs.Records.{is_lowercase_token, is_lowercase_parameter, has_name, names_differ, IsRecord}
 use Rattle.mime_types.specs.Text.{value_text, parameter_text, text_of}
 use Rattle.mime_types.proofs.CutLemmas.{class_within, class_without, token_bytes, token_no_semicolon, token_no_space}
 use Rattle.mime_types.proofs.TrailingLemmas.{without_trailing-none}
@@ -23,9 +23,9 @@ use Rattle.mime_types.proofs.BoolLemmas.{false_from_not}
 abbrev written : List ℕ → Assigned
 written value = if is_token value then plain value else quoted (map unit_of value) by_quote []
 
-written_prints : (value : List ℕ) → print_assigned (written value) ≡ 61 ∷ value_text value
+written_prints : (value : List ℕ) → assigned_text (written value) ≡ 61 ∷ value_text value
 written_prints value =
-    elim (is_token value) as (λ v. print_assigned (if v then plain value else quoted (map unit_of value) by_quote [])
+    elim (is_token value) as (λ v. assigned_text (if v then plain value else quoted (map unit_of value) by_quote [])
     ≡ 61 ∷ (if v then value else 34 ∷ (flat_map quoted_byte value ++ (34 ∷ [])))) [
       | true ↦ refl
       | false ↦ ap (λ units. 61 ∷ (34 ∷ (units ++ (34 ∷ [])))) (units_print value)
@@ -69,10 +69,10 @@ written_stands value =
 abbrev segment_of : List ℕ × List ℕ → Segment
 segment_of pair = record { space = []; name = pair.0; assigned = written pair.1 }
 
-segments_print : (pairs : List (List ℕ × List ℕ)) → print_segments (map segment_of pairs) ≡ flat_map parameter_text pairs
+segments_print : (pairs : List (List ℕ × List ℕ)) → segments_text (map segment_of pairs) ≡ flat_map parameter_text pairs
 segments_print [] = refl
 segments_print (pair ∷ pairs) =
-    ap (λ assigned. (59 ∷ (pair.0 ++ assigned)) ++ print_segments (map segment_of pairs)) (written_prints pair.1)
+    ap (λ assigned. (59 ∷ (pair.0 ++ assigned)) ++ segments_text (map segment_of pairs)) (written_prints pair.1)
     ∙ ap (λ back. parameter_text pair ++ back) (segments_print pairs)
 
 name_begins_outside : (name : List ℕ) → is_token name ≡ true → begins_outside is_http_whitespace name ≡ true
@@ -98,16 +98,16 @@ record IsSmall (pair : List ℕ × List ℕ) (pairs : List (List ℕ × List ℕ
   token : is_token pair.0 ≡ true
   small : list_all (λ b. not (is_ascii_uppercase b)) pair.0 ≡ true
   value : list_all is_quoted_token_byte pair.1 ≡ true
-  rest : list_all is_small_parameter pairs ≡ true
+  rest : list_all is_lowercase_parameter pairs ≡ true
 
-small_of : (pair : List ℕ × List ℕ) (pairs : List (List ℕ × List ℕ)) → list_all is_small_parameter (pair ∷ pairs) ≡ true → IsSmall pair pairs
+small_of : (pair : List ℕ × List ℕ) (pairs : List (List ℕ × List ℕ)) → list_all is_lowercase_parameter (pair ∷ pairs) ≡ true → IsSmall pair pairs
 small_of pair pairs are =
-    let first = and_parts (is_small_parameter pair) (list_all is_small_parameter pairs) are in
-    let parts = and_parts (is_small_token pair.0) (list_all is_quoted_token_byte pair.1) first.0 in
+    let first = and_parts (is_lowercase_parameter pair) (list_all is_lowercase_parameter pairs) are in
+    let parts = and_parts (is_lowercase_token pair.0) (list_all is_quoted_token_byte pair.1) first.0 in
     let name = and_parts (is_token pair.0) (list_all (λ b. not (is_ascii_uppercase b)) pair.0) parts.0 in
     record { token = name.0; small = name.1; value = parts.1; rest = first.1 }
 
-segments_are : (pairs : List (List ℕ × List ℕ)) → list_all is_small_parameter pairs ≡ true → are_segments (map segment_of pairs) ≡ true
+segments_are : (pairs : List (List ℕ × List ℕ)) → list_all is_lowercase_parameter pairs ≡ true → are_segments (map segment_of pairs) ≡ true
 segments_are [] small = refl
 segments_are (pair ∷ pairs) small =
     let is = small_of pair pairs small in
@@ -126,7 +126,7 @@ small_stays (b ∷ text) small =
     let parts = and_parts (not (is_ascii_uppercase b)) (list_all (λ b. not (is_ascii_uppercase b)) text) small in
     ap (λ e. e ∷ str_to_ascii_lowercase text) (lower_stays b parts.0) ∙ ap (λ rest. b ∷ rest) (small_stays text parts.1)
 
-segments_stand : (pairs : List (List ℕ × List ℕ)) → list_all is_small_parameter pairs ≡ true → filter_map pair_of (map segment_of pairs) ≡ pairs
+segments_stand : (pairs : List (List ℕ × List ℕ)) → list_all is_lowercase_parameter pairs ≡ true → filter_map pair_of (map segment_of pairs) ≡ pairs
 segments_stand [] small = refl
 segments_stand (pair ∷ pairs) small =
     let is = small_of pair pairs small in
@@ -134,7 +134,7 @@ segments_stand (pair ∷ pairs) small =
     ∙ ap (λ name. (name, pair.1) ∷ filter_map pair_of (map segment_of pairs)) (small_stays pair.0 is.small)
     ∙ ap (λ rest. pair ∷ rest) (segments_stand pairs is.rest)
 
-parameters_are : (pairs : List (List ℕ × List ℕ)) → list_all is_small_parameter pairs ≡ true → list_all is_parameter pairs ≡ true
+parameters_are : (pairs : List (List ℕ × List ℕ)) → list_all is_lowercase_parameter pairs ≡ true → list_all is_parameter pairs ≡ true
 parameters_are [] small = refl
 parameters_are (pair ∷ pairs) small =
     let is = small_of pair pairs small in

@@ -1,6 +1,11 @@
--- MIME types as texts write them (WHATWG MIME Sniffing 4.4). The text of a MIME type is cut into
--- its parts; each part is a tree with a printer to its bytes, and a test that says which trees are
--- valid. The record is what the cut stands for.
+-- MIME types as texts write them (WHATWG MIME Sniffing 4.4, parse a MIME type). A text is cut into its parts: each part is
+-- a tree, with its text and a test of which trees are valid. The record is what the cut stands for.
+--
+--   mime-type = type "/" subtype *HTTP-whitespace *segment
+--   segment   = ";" *HTTP-whitespace name [ "=" ( quoted-string ignored / plain ) ]
+--
+-- The steps named below are those of the standard's algorithm. It refuses a text for its type and its subtype alone:
+-- every tail from a `;` on is some segments, and those that are no parameters count for nothing.
 use Rattle.std.specs.Prelude.{◌≡◌, ℕ, Bool, true, false, ◌&&◌, ◌||◌, ◌==◌, not, if◌then◌else◌, List, [], ◌∷◌, ◌++◌, filter, Option, Some, None, option_map, bytes_eq}
 use Rattle.std.specs.List.{list_all, flat_map, filter_map}
 use Rattle.std.specs.Str.{str_to_ascii_lowercase}
@@ -16,30 +21,30 @@ pub record Mime : Type 0 where
   pub sub : List ℕ
   pub parameters : List (List ℕ × List ℕ)
 
--- solely HTTP token code points, and at least one
+-- solely HTTP token code points, and at least one (steps 4, 9 and 11.10)
 abbrev pub is_token : List ℕ → Bool
 is_token text = not (is_empty text) && list_all is_token_byte text
 
--- what a segment has behind its name: nothing; `=`, a quoted string and bytes that are ignored; or
--- `=` and a value without quotes
+-- assigned = [ "=" ( quoted-string ignored / plain ) ]: nothing (steps 11.5.1 and 11.6); a quoted string and bytes that
+-- are ignored (step 11.8); or a value that doesn't begin with `"` (step 11.9)
 pub data Assigned : Type 0 where
   nothing : Assigned
   quoted : (units : List QuotedUnit) (close : Close) (ignored : List ℕ) → Assigned
   plain : (value : List ℕ) → Assigned
 
--- the bytes of what is assigned
-abbrev pub print_assigned : Assigned → List ℕ
-print_assigned nothing = []
-print_assigned (quoted units close ignored) =
+-- the text of what is assigned
+abbrev pub assigned_text : Assigned → List ℕ
+assigned_text nothing = []
+assigned_text (quoted units close ignored) =
     equals_sign ∷ (quotation_mark ∷ (flat_map unit_text units ++ (close_text close ++ ignored)))
-print_assigned (plain value) = equals_sign ∷ value
+assigned_text (plain value) = equals_sign ∷ value
 
 -- a byte other than `;`
 abbrev pub is_no_semicolon : ℕ → Bool
 is_no_semicolon b = not (b == semicolon)
 
--- what is ignored, and a plain value, end at the next `;`. A plain value doesn't begin with `"`,
--- and behind a string that goes to the end of the text nothing is ignored.
+-- what is ignored (step 11.8.2), and a plain value (step 11.9.1), end before the next `;`. A plain value doesn't begin
+-- with `"`, and after a string that goes to the end of the text nothing is ignored
 abbrev pub is_assigned : Assigned → Bool
 is_assigned nothing = true
 is_assigned (quoted units close ignored) =
@@ -53,31 +58,30 @@ is_last nothing = false
 is_last (quoted units close ignored) = is_at_end close
 is_last (plain value) = false
 
--- a segment of what stands behind the essence: `;`, HTTP whitespace, a name, and what it is
--- assigned
+-- segment = ";" *HTTP-whitespace name assigned: one turn of step 11
 pub record Segment : Type 0 where
   pub space : List ℕ
   pub name : List ℕ
   pub assigned : Assigned
 
--- the bytes of a segment
-abbrev pub print_segment : Segment → List ℕ
-print_segment s = semicolon ∷ (s.space ++ (s.name ++ print_assigned s.assigned))
+-- the text of a segment (steps 11.1 to 11.3, 11.8 and 11.9)
+abbrev pub segment_text : Segment → List ℕ
+segment_text s = semicolon ∷ (s.space ++ (s.name ++ assigned_text s.assigned))
 
--- a byte of a name: any but `;` and `=`
+-- a byte of a name: any but `;` and `=` (step 11.3)
 abbrev pub is_name_byte : ℕ → Bool
 is_name_byte b = not (b == semicolon || b == equals_sign)
 
--- each part is of its class, and a name begins with no HTTP whitespace
+-- each part is of its class, and a name doesn't begin with HTTP whitespace (steps 11.2 and 11.3)
 abbrev pub is_segment : Segment → Bool
 is_segment s =
     list_all is_http_whitespace s.space
     && (begins_outside is_http_whitespace s.name
     && (list_all is_name_byte s.name && is_assigned s.assigned))
 
--- the bytes of segments
-abbrev pub print_segments : List Segment → List ℕ
-print_segments segments = flat_map print_segment segments
+-- the text of segments
+abbrev pub segments_text : List Segment → List ℕ
+segments_text segments = flat_map segment_text segments
 
 -- each segment is valid, and none follows one that goes to the end of the text
 abbrev pub are_segments : List Segment → Bool
@@ -85,17 +89,18 @@ are_segments [] = true
 are_segments (s ∷ segments) =
     is_segment s && ((not (is_last s.assigned) || is_empty segments) && are_segments segments)
 
--- a text as its parts: type, `/`, subtype, HTTP whitespace, and segments
+-- mime-type = type "/" subtype *HTTP-whitespace *segment
 pub record Cut : Type 0 where
   pub main : List ℕ
   pub sub : List ℕ
   pub space : List ℕ
   pub segments : List Segment
 
--- the parts are valid, and the text without HTTP whitespace at its ends is these parts
+-- the text without HTTP whitespace at its ends (step 1) is these parts, type and subtype are tokens (steps 3 to 9), and
+-- the segments are valid (step 11)
 pub record IsCut (text : List ℕ) (cut : Cut) : Type 0 where
   pub whole : trimmed is_http_whitespace text
-      ≡ cut.main ++ (solidus ∷ (cut.sub ++ (cut.space ++ print_segments cut.segments)))
+      ≡ cut.main ++ (solidus ∷ (cut.sub ++ (cut.space ++ segments_text cut.segments)))
   pub main : is_token cut.main ≡ true
   pub sub : is_token cut.sub ≡ true
   pub space : AllPass is_http_whitespace cut.space
@@ -105,22 +110,22 @@ pub record IsCut (text : List ℕ) (cut : Cut) : Type 0 where
 abbrev pub unless_empty : List ℕ → Option (List ℕ)
 unless_empty value = if is_empty value then None else Some value
 
--- the value that a name is assigned, if any. A plain one loses HTTP whitespace at its end, and is
--- none where nothing is left.
+-- the value that a name is assigned, if any: that of a quoted string (step 11.8.1), and a plain one without HTTP
+-- whitespace at its end, which is none where nothing is left (steps 11.9.2 and 11.9.3)
 abbrev pub assigned_value : Assigned → Option (List ℕ)
 assigned_value nothing = None
 assigned_value (quoted units close ignored) = Some (quoted_value units close)
 assigned_value (plain value) = unless_empty (without_trailing is_http_whitespace value)
 
--- the pair that a segment stands for, if any: its name in small letters, and its value
+-- the pair that a segment stands for, if any: its name in ASCII lowercase (step 11.4), and its value
 abbrev pub pair_of : Segment → Option (List ℕ × List ℕ)
 pair_of s = option_map (λ value. (str_to_ascii_lowercase s.name, value)) (assigned_value s.assigned)
 
--- the name is a token, and the value solely HTTP quoted-string token code points
+-- the name is a token, and the value solely HTTP quoted-string token code points (step 11.10)
 abbrev pub is_parameter : List ℕ × List ℕ → Bool
 is_parameter pair = is_token pair.0 && list_all is_quoted_token_byte pair.1
 
--- of the pairs of one name the first
+-- of the pairs of one name the first (step 11.10)
 abbrev pub first_of_each : List (List ℕ × List ℕ) → List (List ℕ × List ℕ)
 first_of_each [] = []
 first_of_each (pair ∷ pairs) =
@@ -130,7 +135,7 @@ first_of_each (pair ∷ pairs) =
 abbrev pub parameters_of : List Segment → List (List ℕ × List ℕ)
 parameters_of segments = first_of_each (filter is_parameter (filter_map pair_of segments))
 
--- the record that a cut stands for: type and subtype in small letters, and the parameters
+-- the record that a cut stands for: type and subtype in ASCII lowercase (step 10), and the parameters
 abbrev pub mime_of : Cut → Mime
 mime_of cut = record {
   main = str_to_ascii_lowercase cut.main;
@@ -142,7 +147,7 @@ mime_of cut = record {
 abbrev pub IsMime : List ℕ → Mime → Type 0
 IsMime text mime = (cut : Cut) × IsCut text cut × (mime ≡ mime_of cut)
 
--- the text has none
+-- the text has none: the standard's failure (steps 4, 5 and 9)
 abbrev pub HasNoMime : List ℕ → Type 0
 HasNoMime text = (mime : Mime) → ¬ (IsMime text mime)
 

@@ -1,14 +1,14 @@
--- Groups of MIME types, by type and subtype in small letters.
+-- Groups of MIME types, by type and subtype in ASCII lowercase.
 use Rattle.std.specs.Prelude.{ℕ, Bool, ◌&&◌, ◌||◌, ◌-◌, List, [], ◌∷◌, length, drop, codes, bytes_eq}
 use Rattle.std.specs.List.{list_any}
 use Rattle.std.specs.Str.{str_to_ascii_lowercase}
 use Rattle.mime_types.specs.declared.essences.Essence.{Essence}
 
--- the type in small letters
+-- the type in ASCII lowercase
 abbrev pub main_of : Essence → List ℕ
 main_of e = str_to_ascii_lowercase e.main.now
 
--- the subtype in small letters
+-- the subtype in ASCII lowercase
 abbrev pub sub_of : Essence → List ℕ
 sub_of e = str_to_ascii_lowercase e.sub.now
 
@@ -142,6 +142,8 @@ is_never_sniffed_type main sub = is_among never_sniffed_essences main sub
 unfoldable pub media_mains : List (List ℕ)
 media_mains = codes "audio" ∷ codes "image" ∷ codes "video" ∷ []
 
--- the type alone makes it media: an audio, video or image MIME type (WHATWG MIME Sniffing 4.6)
+-- the type alone makes it media: this project's group. The standard's image MIME types are those of type `image`, and its
+-- audio or video MIME types those of type `audio` or `video`, but it counts `application/ogg` among them besides
+-- (WHATWG MIME Sniffing 4.6)
 abbrev pub is_media_type : List ℕ → Bool
 is_media_type main = list_any (λ m. bytes_eq main m) media_mains

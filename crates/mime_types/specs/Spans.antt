@@ -1,4 +1,4 @@
--- The longest front of a text that is of one class.
+-- The longest prefix of a text that is of one class.
 use Rattle.std.specs.Prelude.{◌≡◌, ℕ, Bool, true, not, List, [], ◌∷◌, ◌++◌}
 use Rattle.orb_bytes.specs.Bytes.{AllPass}
 
@@ -8,7 +8,7 @@ begins_outside test [] = true
 begins_outside test (b ∷ text) = not (test b)
 
 -- the text is the two parts: the first is of the class, and the second doesn't go on with it
-pub record Spans (test : ℕ → Bool) (text front back : List ℕ) : Type 0 where
-  pub whole : text ≡ front ++ back
-  pub inside : AllPass test front
-  pub stops : begins_outside test back ≡ true
+pub record Spans (test : ℕ → Bool) (text prefix rest : List ℕ) : Type 0 where
+  pub whole : text ≡ prefix ++ rest
+  pub inside : AllPass test prefix
+  pub stops : begins_outside test rest ≡ true

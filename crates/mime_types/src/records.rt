@@ -4,7 +4,7 @@ ghost use Rattle.std.specs.Prelude.{option_map, option_copied, slice_get, IfOk, 
 ghost use Rattle.orb_bytes.specs.Bytes.{AllPass, is_quoted_token_byte};
 ghost use Rattle.mime_types.specs.declared.records.MimeError.TheVariants.{NoMemory as no_memory};
 ghost use Rattle.mime_types.specs.Mime.{Mime, IsMime, HasNoMime};
-ghost use Rattle.mime_types.specs.Records.{IsRecord, is_small_token, value_of};
+ghost use Rattle.mime_types.specs.Records.{IsRecord, is_lowercase_token, value_of};
 ghost use Rattle.mime_types.specs.Stored.{record_in};
 ghost use Rattle.mime_types.specs.Text.{text_of};
 
@@ -120,7 +120,7 @@ impl MimeType {
     /// # Errors
     /// [`NoMemory`] where memory runs out; the MIME type is then as before.
     pub fn add_parameter(&mut self, name: &[u8], value: &[u8]) -> Result<(), NoMemory>
-        requires name { is_small_token name.now ≡ true }
+        requires name { is_lowercase_token name.now ≡ true }
         requires value { AllPass is_quoted_token_byte value.now }
         requires new { value_of name.now self.old.parameters ≡ None }
         ensures ok { OnOk result (self.new
