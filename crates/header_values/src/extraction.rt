@@ -169,59 +169,49 @@ mod tests {
         Ok(())
     }
 
-    /// The examples of WHATWG Fetch 2.2 behind the algorithm, and more.
+    /// The values of Content-Type, and the MIME type that they state: the examples of WHATWG Fetch 2.2 after the
+    /// algorithm, and more.
+    const STATED: [&str; 12] = [
+        "text/plain;charset=gbk, text/html => text/html",
+        "text/html;charset=gbk;a=b, text/html;x=y => text/html;x=y;charset=gbk",
+        "text/html;charset=gbk;a=b | text/html;x=y => text/html;x=y;charset=gbk",
+        "text/html;charset=gbk | x/x | text/html;x=y => text/html;x=y",
+        "text/html | cannot-parse => text/html",
+        "text/html | */* => text/html",
+        "text/html |  => text/html",
+        "text/html;charset=gbk | text/html => text/html;charset=gbk",
+        "text/html;charset=a, text/css, text/html => text/html",
+        "a/b;charset=c | A/B;charset=d | */* | a/B;e=f => a/b;e=f;charset=c",
+        "a/b;charset=c | a/b;CHARSET=d => a/b;charset=d",
+        "*/*;charset=c | a => none",
+    ];
+
+    /// The text of the MIME type that the fields state, or `none`.
+    fn stated(alloc: Global, fields: &Fields, scratch: &mut Scratch) -> Result<Vec<u8>, Fail>
+        requires fields { AreOfHead fields.now }
+        requires room { length fields.now.head.now ≤ scratch.old }
+    {
+        let mut text = Vec::new(alloc);
+        match extract_mime(alloc, fields, scratch)? {
+            Some(mime) => mime.serialise_into(&mut text)?,
+            None => text.extend_from_slice(b"none")?,
+        }
+        Ok(text)
+    }
+
     #[test]
     fn charset_of_the_run_is_kept(rt: HostRuntime) -> Result<(), Fail> {
-        let rows: [(&[&str], Option<&str>); 12] = [
-            (&["text/plain;charset=gbk, text/html"], Some("text/html")),
-            (
-                &["text/html;charset=gbk;a=b, text/html;x=y"],
-                Some("text/html;x=y;charset=gbk"),
-            ),
-            (
-                &["text/html;charset=gbk;a=b", "text/html;x=y"],
-                Some("text/html;x=y;charset=gbk"),
-            ),
-            (
-                &["text/html;charset=gbk", "x/x", "text/html;x=y"],
-                Some("text/html;x=y"),
-            ),
-            (&["text/html", "cannot-parse"], Some("text/html")),
-            (&["text/html", "*/*"], Some("text/html")),
-            (&["text/html", ""], Some("text/html")),
-            (
-                &["text/html;charset=gbk", "text/html"],
-                Some("text/html;charset=gbk"),
-            ),
-            (
-                &["text/html;charset=a, text/css, text/html"],
-                Some("text/html"),
-            ),
-            (
-                &["a/b;charset=c", "A/B;charset=d", "*/*", "a/B;e=f"],
-                Some("a/b;e=f;charset=c"),
-            ),
-            (&["a/b;charset=c", "a/b;CHARSET=d"], Some("a/b;charset=d")),
-            (&["*/*;charset=c", "a"], None),
-        ];
-        for (values, expected) in rows {
+        for row in STATED {
+            let (values, expected) = row.split_once(" => ").ok_or("a row")?;
             let mut pairs = Vec::new(rt.alloc());
-            for value in values {
-                pairs.push(("Content-Type", *value))?;
+            for value in values.split(" | ") {
+                pairs.push(("Content-Type", value))?;
             }
             let head = Head::of(rt.alloc(), &pairs)?;
             let fields = head.fields()?;
             let mut scratch = Scratch::open(rt.alloc(), fields.head.len())?;
-            let found = extract_mime(rt.alloc(), &fields, &mut scratch)?;
-            let mut text = Vec::new(rt.alloc());
-            if let Some(mime) = &found {
-                mime.serialise_into(&mut text)?;
-            }
-            assert_eq!(rt; found.is_some(), expected.is_some(), "{values:?}");
-            assert!(rt;
-                text.as_slice() == expected.unwrap_or("").as_bytes(),
-                "{values:?}"
-            );
+            let text = stated(rt.alloc(), &fields, &mut scratch)?;
+            assert!(rt; text.as_slice() == expected.as_bytes(), "{row}");
         }
         Ok(())
     }
