@@ -11,7 +11,7 @@ use Rattle.corb_sniffers.specs.Html.{EndsFirst}
 abbrev pub end : List ℕ
 end = codes "-->"
 
--- the end stands behind what is inside
+-- the end stands after what is inside
 pub end_stands : (inside rest : List ℕ) → OccursAt (inside ++ (end ++ rest)) end (length inside)
 end_stands inside rest = record {
   fits = omega (arith, length-append inside (end ++ rest), length-append end rest);
@@ -19,18 +19,18 @@ end_stands inside rest = record {
 }
 
 -- an occurrence in the first part of a text, and the other way round
-pub occurs_within : (front behind : List ℕ) (k : ℕ) → k + length end ≤ length front → OccursAt (front ++ behind) end k → OccursAt front end k
-occurs_within front behind k within there = record {
+pub occurs_within : (prefix rest : List ℕ) (k : ℕ) → k + length end ≤ length prefix → OccursAt (prefix ++ rest) end k → OccursAt prefix end k
+occurs_within prefix rest k within there = record {
   fits = within;
-  reads = λ j below. sym (get_or-append front behind 0 (k + j) (omega arith)) ∙ there.reads j below;
+  reads = λ j below. sym (get_or-append prefix rest 0 (k + j) (omega arith)) ∙ there.reads j below;
 }
 
-pub occurs_further : (front behind : List ℕ) (k : ℕ) → OccursAt front end k → OccursAt (front ++ behind) end k
-occurs_further front behind k there =
+pub occurs_further : (prefix rest : List ℕ) (k : ℕ) → OccursAt prefix end k → OccursAt (prefix ++ rest) end k
+occurs_further prefix rest k there =
     let fits = there.fits in
     record {
-      fits = omega (arith, length-append front behind);
-      reads = λ j below. get_or-append front behind 0 (k + j) (omega arith) ∙ there.reads j below;
+      fits = omega (arith, length-append prefix rest);
+      reads = λ j below. get_or-append prefix rest 0 (k + j) (omega arith) ∙ there.reads j below;
     }
 
 -- where two comments begin alike, what is inside them is as long
@@ -75,11 +75,11 @@ found_ends text k found =
     let one : get_or text k 0 ≡ 45 = ap (λ n. get_or text n 0) zeroth ∙ found.1.reads 0 (omega arith) in
     let two : get_or text (suc k) 0 ≡ 45 = ap (λ n. get_or text n 0) first_place ∙ found.1.reads 1 (omega arith) in
     let three : get_or text (suc (suc k)) 0 ≡ 62 = ap (λ n. get_or text n 0) second_place ∙ found.1.reads 2 (omega arith) in
-    let behind : drop k text ≡ end ++ drop (k + 3) text =
+    let rest : drop k text ≡ end ++ drop (k + 3) text =
     drop-cons text k 0 (omega arith)
     ∙ rw (one, drop-cons text (suc k) 0 (omega arith), two, drop-cons text (suc (suc k)) 0 (omega arith), three)
     (ap (λ n. 45 ∷ 45 ∷ 62 ∷ drop n text) third_place) in
-    let cut : text ≡ take k text ++ (end ++ drop (k + 3) text) = sym (take-append-drop k text) ∙ ap (λ t. take k text ++ t) behind in
+    let cut : text ≡ take k text ++ (end ++ drop (k + 3) text) = sym (take-append-drop k text) ∙ ap (λ t. take k text ++ t) rest in
     (first cut, cut) where
       first : text ≡ take k text ++ (end ++ drop (k + 3) text) → EndsFirst (take k text)
       first cut j below there =

@@ -53,7 +53,7 @@ comment_alike inside text first = (
   λ h. record { pieces = Comment inside ∷ h.pieces; good = (first, h.good); rest = h.rest; cut = ap (piece_text (Comment inside)) h.cut; tag = h.tag },
 )
 
--- a window in front of which neither stands
+-- a window before which neither stands
 pub tag_first : (window : List ℕ) → IsNoSpace window → IsNoComment window → SniffsHtml window → BeginsWithTag window
 tag_first window spaces none h = from h.pieces h.good h.cut where
   from : (pieces : List Piece) → ArePieces pieces → window ≡ pieces_text pieces h.rest → BeginsWithTag window

@@ -1,4 +1,4 @@
--- Rows at the front of a text with a byte behind them that ends a tag.
+-- Rows at the beginning of a text with a byte after them that ends a tag.
 use Rattle.std.proofs.Common.{◌≡◌, ℕ, zero, suc, ◌<◌, Bool, true, false, ◌&&◌, ◌==◌, List, [], ◌∷◌, ◌++◌, length, get_or, take, drop, bit_and, refl, sym, ap, ◌∙◌, inl, inr, eq-eqb, arith}
 use Rattle.std.specs.List.{list_any}
 use Rattle.std.proofs.lemmas.List.{take-append-drop, length-take}
@@ -52,7 +52,7 @@ ends_within zero (b ∷ text) is = omega arith
 ends_within (suc n) [] is = absurd (cc)
 ends_within (suc n) (b ∷ text) is = omega (arith, ends_within n text is)
 
--- a row that the first bytes just are, and an end behind it
+-- a row that the first bytes just are, and an end after it
 pub ended_row : (rows : List Row) (text : List ℕ) (n : ℕ) → list_any (is_just_matched (take n text)) rows ≡ true
     → begins_ending (drop n text) ≡ true → list_any (begins_with_ended text) rows ≡ true
 ended_row rows text n just ends =
@@ -66,7 +66,7 @@ ended_row rows text n just ends =
     (ap (λ t. is_matched t row) (sym (take-append-drop n text)) ∙ longer_text row.bytes.now row.mask.now (take n text) (drop n text) parts.1)
     (ap (λ k. begins_ending (drop k text)) long ∙ ends))
 
--- where none of the first places has one, and none is open behind them, there is none
+-- where none of the first places has one, and none is open after them, there is none
 pub no_ended_row : (rows : List Row) (text : List ℕ) (n : ℕ)
     → ((k : ℕ) → k < n → (list_any (is_just_matched (take k text)) rows && begins_ending (drop k text)) ≡ false)
     → (n < length text → list_any (is_open (take n text)) rows ≡ false)

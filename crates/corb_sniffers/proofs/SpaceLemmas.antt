@@ -1,8 +1,6 @@
 -- What leaves a text without its leading bytes of a class.
-use Rattle.std.proofs.Common.{◌≡◌, ℕ, Bool, false, List, [], ◌∷◌, ◌++◌, ◌≤◌, length, refl, sym, ap, ◌∙◌, inl, inr, arith}
-use Rattle.std.proofs.lemmas.Bool.{cases_Bool, and_parts, and_from}
-use Rattle.std.specs.List.{list_all}
-use Rattle.orb_bytes.specs.Bytes.{AllPass}
+use Rattle.std.proofs.Common.{◌≡◌, ℕ, Bool, false, List, [], ◌∷◌, ◌≤◌, length, sym, ap, ◌∙◌, inl, inr, arith}
+use Rattle.std.proofs.lemmas.Bool.{cases_Bool}
 use Rattle.orb_bytes.specs.Trim.{without_leading}
 use Rattle.orb_bytes.proofs.TrimLemmas.{without_leading-more, without_leading-stop}
 

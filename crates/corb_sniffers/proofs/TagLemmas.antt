@@ -115,30 +115,30 @@ tag_to text bytes is =
       same = (bytes_eq-Decides (str_to_ascii_lowercase cut.0) (str_to_ascii_lowercase name)).1 cut.4;
       ending = ending.0;
       ends = ending.3;
-      behind = ending.1;
+      rest = ending.1;
       cut = cut.2 ∙ ap (λ t. cut.0 ++ t) ending.2;
     }
 
 pub tag_from : (text : List ℕ) → AreBytes text → BeginsWithTag text → list_any (is_tag_at text) tags ≡ true
 tag_from text bytes h =
     listed_any (is_tag_at text) tags h.tag h.listed
-    (rw (h.cut) (both (masked_from h.tag h.written (h.ending ∷ h.behind) (tag_letters h.tag h.listed) (rw h.cut at bytes)
+    (rw (h.cut) (both (masked_from h.tag h.written (h.ending ∷ h.rest) (tag_letters h.tag h.listed) (rw h.cut at bytes)
     ((bytes_eq-Decides (str_to_ascii_lowercase h.written) (str_to_ascii_lowercase h.tag)).0 h.same)))) where
-      both : (begins_masked h.tag (case_mask h.tag) (h.written ++ (h.ending ∷ h.behind)) ≡ true) × (length h.written ≡ length h.tag)
-          → is_tag_at (h.written ++ (h.ending ∷ h.behind)) h.tag ≡ true
+      both : (begins_masked h.tag (case_mask h.tag) (h.written ++ (h.ending ∷ h.rest)) ≡ true) × (length h.written ≡ length h.tag)
+          → is_tag_at (h.written ++ (h.ending ∷ h.rest)) h.tag ≡ true
       both facts =
-          and_from (begins_masked h.tag (case_mask h.tag) (h.written ++ (h.ending ∷ h.behind))) (begins_ending (drop (length h.tag) (h.written ++ (h.ending ∷ h.behind)))) facts.0
-          (ap (λ n. begins_ending (drop n (h.written ++ (h.ending ∷ h.behind)))) (sym facts.1)
-          ∙ ap begins_ending (drop-append_seam h.written (h.ending ∷ h.behind)) ∙ h.ends)
+          and_from (begins_masked h.tag (case_mask h.tag) (h.written ++ (h.ending ∷ h.rest))) (begins_ending (drop (length h.tag) (h.written ++ (h.ending ∷ h.rest)))) facts.0
+          (ap (λ n. begins_ending (drop n (h.written ++ (h.ending ∷ h.rest)))) (sym facts.1)
+          ∙ ap begins_ending (drop-append_seam h.written (h.ending ∷ h.rest)) ∙ h.ends)
 
 -- ---- what a tag's first bytes are
 
--- in small letters, what begins with a tag begins as one of the list
+-- in ASCII lowercase, what begins with a tag begins as one of the list
 lower_of : (text : List ℕ) (h : BeginsWithTag text)
-    → str_to_ascii_lowercase text ≡ str_to_ascii_lowercase h.tag ++ str_to_ascii_lowercase (h.ending ∷ h.behind)
+    → str_to_ascii_lowercase text ≡ str_to_ascii_lowercase h.tag ++ str_to_ascii_lowercase (h.ending ∷ h.rest)
 lower_of text h =
-    ap str_to_ascii_lowercase h.cut ∙ map-append to_ascii_lowercase h.written (h.ending ∷ h.behind)
-    ∙ ap (λ t. t ++ str_to_ascii_lowercase (h.ending ∷ h.behind))
+    ap str_to_ascii_lowercase h.cut ∙ map-append to_ascii_lowercase h.written (h.ending ∷ h.rest)
+    ∙ ap (λ t. t ++ str_to_ascii_lowercase (h.ending ∷ h.rest))
     ((bytes_eq-Decides (str_to_ascii_lowercase h.written) (str_to_ascii_lowercase h.tag)).0 h.same)
 
 -- `<` and not the beginning of a comment
@@ -153,32 +153,32 @@ apart_from [] name all listed = absurd listed
 apart_from (other ∷ names) name all (inl same) = ap starts_apart same ∙ (and_parts (starts_apart other) (list_all starts_apart names) all).0
 apart_from (other ∷ names) name all (inr later) = apart_from names name (and_parts (starts_apart other) (list_all starts_apart names) all).1 later
 
-no_comment : (name behind more : List ℕ) → starts_apart name ≡ true
-    → ¬ (60 ∷ 33 ∷ 45 ∷ 45 ∷ more ≡ str_to_ascii_lowercase name ++ behind)
-no_comment [] behind more is same = absurd (cc)
-no_comment (a ∷ []) behind more is same = absurd (cc)
-no_comment (a ∷ b ∷ []) behind more is same =
+no_comment : (name rest more : List ℕ) → starts_apart name ≡ true
+    → ¬ (60 ∷ 33 ∷ 45 ∷ 45 ∷ more ≡ str_to_ascii_lowercase name ++ rest)
+no_comment [] rest more is same = absurd (cc)
+no_comment (a ∷ []) rest more is same = absurd (cc)
+no_comment (a ∷ b ∷ []) rest more is same =
     let second : to_ascii_lowercase b ≡ 33 = cc in
     let lie : (to_ascii_lowercase a == 60 && not (33 == 33)) ≡ true = rw second at is in
     let none = (and_parts (to_ascii_lowercase a == 60) false lie).1 in absurd (cc)
-no_comment (a ∷ b ∷ c ∷ name) behind more is same =
+no_comment (a ∷ b ∷ c ∷ name) rest more is same =
     let second : to_ascii_lowercase b ≡ 33 = cc in
     let third : to_ascii_lowercase c ≡ 45 = cc in
     let lie : (to_ascii_lowercase a == 60 && (not (33 == 33) || not (45 == 45))) ≡ true = rw (second, third) at is in
     let none = (and_parts (to_ascii_lowercase a == 60) false lie).1 in absurd (cc)
 
-opens : (name behind : List ℕ) (b : ℕ) (more : List ℕ) → starts_apart name ≡ true
-    → b ∷ more ≡ str_to_ascii_lowercase name ++ behind → b ≡ 60
-opens [] behind b more is same = absurd (cc)
-opens (a ∷ []) behind b more is same = absurd (cc)
-opens (a ∷ c ∷ []) behind b more is same =
+opens : (name rest : List ℕ) (b : ℕ) (more : List ℕ) → starts_apart name ≡ true
+    → b ∷ more ≡ str_to_ascii_lowercase name ++ rest → b ≡ 60
+opens [] rest b more is same = absurd (cc)
+opens (a ∷ []) rest b more is same = absurd (cc)
+opens (a ∷ c ∷ []) rest b more is same =
     let first : b ≡ to_ascii_lowercase a = cc in first ∙ eqb-true _ 60 (and_parts (to_ascii_lowercase a == 60) _ is).0
-opens (a ∷ c ∷ d ∷ name) behind b more is same =
+opens (a ∷ c ∷ d ∷ name) rest b more is same =
     let first : b ≡ to_ascii_lowercase a = cc in first ∙ eqb-true _ 60 (and_parts (to_ascii_lowercase a == 60) _ is).0
 
 pub tag_is_no_comment : (more : List ℕ) → ¬ BeginsWithTag (codes "<!--" ++ more)
 tag_is_no_comment more h =
-    no_comment h.tag (str_to_ascii_lowercase (h.ending ∷ h.behind)) (str_to_ascii_lowercase more) (apart_from tags h.tag refl h.listed)
+    no_comment h.tag (str_to_ascii_lowercase (h.ending ∷ h.rest)) (str_to_ascii_lowercase more) (apart_from tags h.tag refl h.listed)
     (lower_of (codes "<!--" ++ more) h)
 
 no_space : (b : ℕ) → is_whitespace_byte b ≡ true → to_ascii_lowercase b ≡ 60 → ⊥
@@ -186,5 +186,5 @@ no_space b space is = grind (arith, nat_tests)
 
 pub tag_is_no_space : (b : ℕ) (text : List ℕ) → is_whitespace_byte b ≡ true → ¬ BeginsWithTag (b ∷ text)
 tag_is_no_space b text space h =
-    no_space b space (opens h.tag (str_to_ascii_lowercase (h.ending ∷ h.behind)) (to_ascii_lowercase b) (str_to_ascii_lowercase text)
+    no_space b space (opens h.tag (str_to_ascii_lowercase (h.ending ∷ h.rest)) (to_ascii_lowercase b) (str_to_ascii_lowercase text)
     (apart_from tags h.tag refl h.listed) (lower_of (b ∷ text) h))

@@ -1,4 +1,4 @@
--- Parser breakers: what a server writes in front of data so that it is no script (the CORB explainer).
+-- Parser breakers: what a server writes before data so that it is no script (the CORB explainer).
 use Rattle.std.specs.Prelude.{◌≡◌, ℕ, List, [], ◌∷◌, ◌++◌, codes}
 use Rattle.corb_sniffers.specs.Texts.{IsListed}
 use Rattle.orb_bytes.specs.Bytes.{AllPass, is_whitespace_byte}

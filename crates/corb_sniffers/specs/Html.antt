@@ -10,7 +10,7 @@ pub data Piece : Type 0 where
   Space : ℕ → Piece
   Comment : (inside : List ℕ) → Piece
 
--- how a piece is spelled, in front of what follows
+-- how a piece is spelled, before what follows
 abbrev pub piece_text : Piece → List ℕ → List ℕ
 piece_text (Space b) rest = b ∷ rest
 piece_text (Comment inside) rest = codes "<!--" ++ (inside ++ (codes "-->" ++ rest))
@@ -19,7 +19,7 @@ abbrev pub pieces_text : List Piece → List ℕ → List ℕ
 pieces_text [] rest = rest
 pieces_text (piece ∷ pieces) rest = piece_text piece (pieces_text pieces rest)
 
--- the first `-->` behind `<!--` is the one that ends the comment. So it begins at the comment's place 4 or later: `<!-->`
+-- the first `-->` after `<!--` is the one that ends the comment. So it begins at the comment's offset 4 or later: `<!-->`
 -- and `<!--->` are no comments
 abbrev pub EndsFirst : List ℕ → Type 0
 EndsFirst inside = (k : ℕ) → k < length inside → ¬ OccursAt (inside ++ codes "-->") (codes "-->") k
@@ -47,8 +47,8 @@ pub record BeginsWithTag (text : List ℕ) : Type 0 where
   pub same : same_name written tag ≡ true
   pub ending : ℕ
   pub ends : is_tag_terminating ending ≡ true
-  pub behind : List ℕ
-  pub cut : text ≡ written ++ (ending ∷ behind)
+  pub rest : List ℕ
+  pub cut : text ≡ written ++ (ending ∷ rest)
 
 -- the window is white space and comments, and then what begins with a tag
 pub record SniffsHtml (window : List ℕ) : Type 0 where

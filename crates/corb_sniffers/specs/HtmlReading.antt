@@ -14,16 +14,16 @@ begins_ending (b ∷ text) = is_tag_terminating b
 abbrev pub begins_with_ended : List ℕ → Row → Bool
 begins_with_ended text row = is_matched text row && begins_ending (drop (length row.bytes.now) text)
 
--- no white space stands in front
+-- no white space stands first
 abbrev pub IsNoSpace : List ℕ → Type 0
 IsNoSpace text = (b : ℕ) (rest : List ℕ) → text ≡ b ∷ rest → is_whitespace_byte b ≡ false
 
--- no comment stands in front
+-- no comment stands first
 abbrev pub IsNoComment : List ℕ → Type 0
 IsNoComment text = (inside rest : List ℕ) → EndsFirst inside → ¬ (text ≡ piece_text (Comment inside) rest)
 
 -- the text is a comment and the rest
-pub record IsBehindComment (text rest : List ℕ) : Type 0 where
+pub record IsAfterComment (text rest : List ℕ) : Type 0 where
   pub inside : List ℕ
   pub first : EndsFirst inside
   pub cut : text ≡ piece_text (Comment inside) rest

@@ -1,4 +1,4 @@
--- JSON as the CORB explainer confirms it: the beginning of an object up to the colon behind its first name.
+-- JSON as the CORB explainer confirms it: the beginning of an object up to the colon after its first name.
 use Rattle.std.specs.Prelude.{◌≡◌, ℕ, Bool, not, ◌&&◌, ◌==◌, nat_le, List, [], ◌∷◌, ◌++◌, true}
 use Rattle.orb_bytes.specs.Ascii.{space, quotation_mark, colon, reverse_solidus, left_curly_bracket}
 use Rattle.orb_bytes.specs.Bytes.{AllPass, is_http_whitespace}
@@ -7,7 +7,7 @@ use Rattle.orb_bytes.specs.Bytes.{AllPass, is_http_whitespace}
 abbrev pub is_text_byte : ℕ → Bool
 is_text_byte b = nat_le space b
 
--- a unit of a name: a byte as it stands, or one behind a `\`
+-- a unit of a name: a byte as it stands, or one after a `\`
 pub data NameUnit : Type 0 where
   Plain : ℕ → NameUnit
   Escaped : ℕ → NameUnit
@@ -20,7 +20,7 @@ abbrev pub AreUnits : List NameUnit → Type 0
 AreUnits [] = Unit {0}
 AreUnits (unit ∷ units) = IsUnit unit × AreUnits units
 
--- how units are spelled, in front of what follows
+-- how units are spelled, before what follows
 abbrev pub unit_text : NameUnit → List ℕ → List ℕ
 unit_text (Plain b) rest = b ∷ rest
 unit_text (Escaped b) rest = reverse_solidus ∷ b ∷ rest
@@ -29,7 +29,7 @@ abbrev pub units_text : List NameUnit → List ℕ → List ℕ
 units_text [] rest = rest
 units_text (unit ∷ units) rest = unit_text unit (units_text units rest)
 
--- the window is `{`, a name in quotation marks and `:`, each behind white space (RFC 8259 2), and any rest
+-- the window is `{`, a name in quotation marks and `:`, each after white space (RFC 8259 2), and any rest
 pub record SniffsJson (window : List ℕ) : Type 0 where
   pub before_brace : List ℕ
   pub before_name : List ℕ

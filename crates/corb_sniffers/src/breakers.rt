@@ -27,7 +27,7 @@ static BREAKERS: [Row; 5] = [
     },
 ];
 
-/// Whether the window begins with a parser breaker behind its leading white space.
+/// Whether the window begins with a parser breaker after its leading white space.
 pub fn has_breaker(window: &[u8]) -> bool
     ensures { IsTrue result ↔ HasBreaker window.now }
 {

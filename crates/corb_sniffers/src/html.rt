@@ -3,7 +3,7 @@ ghost use Rattle.std.specs.Prelude.{◌≡◌, IsTrue, ◌↔◌, MatchOption};
 ghost use Rattle.std.specs.List.{list_any};
 ghost use Rattle.orb_bytes.specs.Rows.{are_rows};
 ghost use Rattle.corb_sniffers.specs.Html.{SniffsHtml, BeginsWithTag};
-ghost use Rattle.corb_sniffers.specs.HtmlReading.{begins_with_ended, IsNoSpace, IsNoComment, IsBehindComment, SniffsAlike};
+ghost use Rattle.corb_sniffers.specs.HtmlReading.{begins_with_ended, IsNoSpace, IsNoComment, IsAfterComment, SniffsAlike};
 
 use memchr::memmem;
 use orb_bytes::{Row, Walk, is_tag_end, trim_whitespace_start};
@@ -76,7 +76,7 @@ static TAGS: [Row; 16] = [
     },
 ];
 
-/// Whether the window is white space and comments and then a tag that confirms HTML, with a byte behind it that ends it.
+/// Whether the window is white space and comments and then a tag that confirms HTML, with a byte after it that ends it.
 pub fn sniffs_html(window: &[u8]) -> bool
     ensures { IsTrue result ↔ SniffsHtml window.now }
 {
@@ -98,7 +98,7 @@ fn after_pieces(window: &[u8]) -> &[u8]
 
 /// What follows the comment with which the text begins; `None` exactly where it begins with none.
 fn after_comment(text: &[u8]) -> Option<&[u8]>
-    ensures { MatchOption result (IsNoComment text.now) (λ rest. IsBehindComment text.now rest.now) }
+    ensures { MatchOption result (IsNoComment text.now) (λ rest. IsAfterComment text.now rest.now) }
 {
     let inside = text.strip_prefix(b"<!--")?;
     let end = memmem::find(inside, b"-->")?;

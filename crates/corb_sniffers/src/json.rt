@@ -1,7 +1,7 @@
 //! JSON.
 ghost use Rattle.std.specs.Prelude.{◌≡◌, IsTrue, ◌↔◌, MatchOption, Some, None};
 ghost use Rattle.corb_sniffers.specs.Json.{SniffsJson};
-ghost use Rattle.corb_sniffers.specs.JsonReading.{behind_byte, behind_name, behind_colon};
+ghost use Rattle.corb_sniffers.specs.JsonReading.{rest_after_byte, rest_after_name, rest_after_colon};
 
 use orb_bytes::trim_http_ws_start;
 
@@ -14,7 +14,7 @@ pub fn sniffs_json(window: &[u8]) -> bool
 
 /// What follows the first name's colon.
 fn after_colon(window: &[u8]) -> Option<&[u8]>
-    ensures { MatchOption result (behind_colon window.now ≡ None) (λ rest. behind_colon window.now ≡ Some rest.now) }
+    ensures { MatchOption result (rest_after_colon window.now ≡ None) (λ rest. rest_after_colon window.now ≡ Some rest.now) }
 {
     let object = after_byte(b'{', window)?;
     let name = after_byte(b'"', object)?;
@@ -24,7 +24,7 @@ fn after_colon(window: &[u8]) -> Option<&[u8]>
 
 /// What follows white space, which JSON has as HTTP has it (RFC 8259 2), and the byte; `None` exactly where something else stands there.
 fn after_byte(byte: u8, text: &[u8]) -> Option<&[u8]>
-    ensures { MatchOption result (behind_byte byte text.now ≡ None) (λ rest. behind_byte byte text.now ≡ Some rest.now) }
+    ensures { MatchOption result (rest_after_byte byte text.now ≡ None) (λ rest. rest_after_byte byte text.now ≡ Some rest.now) }
 {
     match trim_http_ws_start(text) {
         [first, rest @ ..] if *first == byte => Some(rest),
@@ -34,7 +34,7 @@ fn after_byte(byte: u8, text: &[u8]) -> Option<&[u8]>
 
 /// What follows the units of a name and its quote; `None` exactly where no name ends.
 fn after_name(text: &[u8]) -> Option<&[u8]>
-    ensures { MatchOption result (behind_name text.now ≡ None) (λ rest. behind_name text.now ≡ Some rest.now) }
+    ensures { MatchOption result (rest_after_name text.now ≡ None) (λ rest. rest_after_name text.now ≡ Some rest.now) }
 {
     let mut rest = text;
     'units: loop {

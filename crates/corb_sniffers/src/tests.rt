@@ -28,7 +28,7 @@ const PAGES: [(&[u8], bool); 20] = [
     (b"", false),
 ];
 
-/// The tags, in small letters.
+/// The tags, in ASCII lowercase.
 const TAGS: [&[u8]; 16] = [
     b"<!doctype html",
     b"<html",
@@ -114,7 +114,7 @@ fn objects_begin_with_a_name_and_a_colon(rt: HostRuntime) {
 }
 
 #[test]
-fn breakers_stand_behind_white_space(rt: HostRuntime) {
+fn breakers_stand_after_white_space(rt: HostRuntime) {
     let rows: [(&[u8], bool); 12] = [
         (b")]}'", true),
         (b"{}&&", true),

@@ -9,10 +9,10 @@ use Rattle.std.proofs.Math.Seq.{drop-cons}
 use Rattle.std.proofs.lemmas.List.{take_more, take_all}
 use Rattle.orb_bytes.specs.Quoted.{QuotedUnit, qdtext, quoted_pair, unit_text, is_unit, by_quote, by_end, by_backslash}
 use Rattle.orb_bytes.proofs.QuotedLemmas.{stops_units, units_of}
-use Rattle.header_values.specs.declared.split.Place.{Place}
-use Rattle.header_values.specs.declared.split.Place.TheVariants.{Outside, Inside}
+use Rattle.header_values.specs.declared.split.State.{State}
+use Rattle.header_values.specs.declared.split.State.TheVariants.{Outside, Inside}
 use Rattle.header_values.specs.Parts.{Piece, bare, string, piece_text, is_piece, is_last, part_text, is_part, is_closed, parts_text, are_parts, IsCut, trimmed_part}
-use Rattle.header_values.specs.Cuts.{HasOneCut, after, is_cut, put_first, cut_from, cuts_left, parts_of, parts_left_of}
+use Rattle.header_values.specs.Cuts.{HasOneCut, state_after, is_cut, put_first, cut_from, cuts_left, parts_of, parts_left_of}
 
 put_first-twice : (a b : List ℕ) (texts : List (List ℕ)) → put_first a (put_first b texts) ≡ put_first (a ++ b) texts
 put_first-twice a b [] = refl
@@ -23,9 +23,9 @@ put_first-none [] = refl
 put_first-none (text ∷ texts) = refl
 
 -- a byte that ends no part
-cut_from-byte : (place : Place) (b : ℕ) (text : List ℕ) → is_cut place b ≡ false
-    → cut_from place (b ∷ text) ≡ put_first (b ∷ []) (cut_from (after place b) text)
-cut_from-byte place b text stays = rw stays refl
+cut_from-byte : (state : State) (b : ℕ) (text : List ℕ) → is_cut state b ≡ false
+    → cut_from state (b ∷ text) ≡ put_first (b ∷ []) (cut_from (state_after state b) text)
+cut_from-byte state b text stays = rw stays refl
 
 -- the bytes that stand for themselves in a string
 plain_unit : (quote slash : Bool) → not (quote || slash) ≡ true → (quote ≡ false) × (slash ≡ false)
@@ -49,7 +49,7 @@ cut_from-units (u ∷ us) text are =
     ∙ ap (put_first (unit_text u)) (cut_from-units us text parts.1)
     ∙ put_first-twice (unit_text u) (flat_map unit_text us) (cut_from Inside text)
 
--- a piece behind which the value may go on
+-- a piece after which the value may go on
 cut_from-piece : (p : Piece) (text : List ℕ) → is_piece p ≡ true → is_last p ≡ false
     → cut_from Outside (piece_text p ++ text) ≡ put_first (piece_text p) (cut_from Outside text)
 cut_from-piece (bare b) text is goes_on =
@@ -78,9 +78,9 @@ record PieceBy (p : Piece) (ps : List Piece) : Type 0 where
 
 piece_by : (p : Piece) (ps : List Piece) → is_part (p ∷ ps) ≡ true → PieceBy p ps
 piece_by p ps are =
-    let front = and_parts (is_piece p) ((not (is_last p) || is_empty ps) && is_part ps) are in
-    let back = and_parts (not (is_last p) || is_empty ps) (is_part ps) front.1 in
-    record { valid = front.0; alone = back.0; others = back.1 }
+    let first = and_parts (is_piece p) ((not (is_last p) || is_empty ps) && is_part ps) are in
+    let back = and_parts (not (is_last p) || is_empty ps) (is_part ps) first.1 in
+    record { valid = first.0; alone = back.0; others = back.1 }
 
 no_piece : (ps : List Piece) → is_empty ps ≡ true → ps ≡ []
 no_piece [] is = refl
@@ -90,42 +90,42 @@ not_true : (b : Bool) → not b ≡ true → b ≡ false
 not_true true is = absurd (cc)
 not_true false is = refl
 
--- a part in front of a comma
+-- a part before a comma
 cut_from-part : (ps : List Piece) (text : List ℕ) → is_part ps ≡ true → is_closed ps ≡ true
     → cut_from Outside (part_text ps ++ text) ≡ put_first (part_text ps) (cut_from Outside text)
 cut_from-part [] text are closed = sym (put_first-none (cut_from Outside text))
 cut_from-part (p ∷ ps) text are closed =
-    let front = piece_by p ps are in
+    let first = piece_by p ps are in
     let shut = and_parts (not (is_last p)) (is_closed ps) closed in
     ap (cut_from Outside) (append_assoc (piece_text p) (part_text ps) text)
-    ∙ cut_from-piece p (part_text ps ++ text) front.valid (not_true (is_last p) shut.0)
-    ∙ ap (put_first (piece_text p)) (cut_from-part ps text front.others shut.1)
+    ∙ cut_from-piece p (part_text ps ++ text) first.valid (not_true (is_last p) shut.0)
+    ∙ ap (put_first (piece_text p)) (cut_from-part ps text first.others shut.1)
     ∙ put_first-twice (piece_text p) (part_text ps) (cut_from Outside text)
 
 -- the last part
 cut_from-end : (ps : List Piece) → is_part ps ≡ true → cut_from Outside (part_text ps) ≡ part_text ps ∷ []
 cut_from-end [] are = refl
 cut_from-end (p ∷ ps) are =
-    let front = piece_by p ps are in
+    let first = piece_by p ps are in
     elim (is_last p) as (λ v. is_last p ≡ v → (not v || is_empty ps) ≡ true → cut_from Outside (part_text (p ∷ ps)) ≡ part_text (p ∷ ps) ∷ []) [
       | true ↦ λ last alone.
           let none : ps ≡ [] = no_piece ps alone in
           let whole : part_text (p ∷ ps) ≡ piece_text p = ap (λ qs. piece_text p ++ part_text qs) none ∙ append-nil (piece_text p) in
-          ap (cut_from Outside) whole ∙ cut_from-last p front.valid last ∙ ap (λ t. t ∷ []) (sym whole)
+          ap (cut_from Outside) whole ∙ cut_from-last p first.valid last ∙ ap (λ t. t ∷ []) (sym whole)
       | false ↦ λ goes_on alone.
-          cut_from-piece p (part_text ps) front.valid goes_on ∙ ap (put_first (piece_text p)) (cut_from-end ps front.others)
-    ] refl front.alone
+          cut_from-piece p (part_text ps) first.valid goes_on ∙ ap (put_first (piece_text p)) (cut_from-end ps first.others)
+    ] refl first.alone
 
 -- the walk finds the parts
 cut_from-parts : (parts : List (List Piece)) → are_parts parts ≡ true → cut_from Outside (parts_text parts) ≡ map part_text parts
 cut_from-parts [] are = absurd (cc)
 cut_from-parts (part ∷ []) are = cut_from-end part are
 cut_from-parts (part ∷ (next ∷ parts)) are =
-    let front = and_parts (is_part part && is_closed part) (are_parts (next ∷ parts)) are in
-    let valid = and_parts (is_part part) (is_closed part) front.0 in
+    let first = and_parts (is_part part && is_closed part) (are_parts (next ∷ parts)) are in
+    let valid = and_parts (is_part part) (is_closed part) first.0 in
     cut_from-part part (44 ∷ parts_text (next ∷ parts)) valid.0 valid.1
     ∙ ap (λ t. t ∷ cut_from Outside (parts_text (next ∷ parts))) (append-nil (part_text part))
-    ∙ ap (λ texts. part_text part ∷ texts) (cut_from-parts (next ∷ parts) front.1)
+    ∙ ap (λ texts. part_text part ∷ texts) (cut_from-parts (next ∷ parts) first.1)
 
 trimmed_parts : (parts : List (List Piece)) → map (trimmed is_tab_or_space) (map part_text parts) ≡ map trimmed_part parts
 trimmed_parts [] = refl
@@ -143,7 +143,7 @@ record CutOf (value : List ℕ) : Type 0 where
   parts : List (List Piece)
   is : IsCut value parts
 
--- a piece in front of the first part
+-- a piece before the first part
 with_piece : Piece → List (List Piece) → List (List Piece)
 with_piece p [] = []
 with_piece p (part ∷ parts) = (p ∷ part) ∷ parts
@@ -167,11 +167,11 @@ unfolding with_piece
 are-with_piece p [] valid goes_on are = are
 are-with_piece p (part ∷ []) valid goes_on are = part-with p part valid goes_on are
 are-with_piece p (part ∷ (next ∷ parts)) valid goes_on are =
-    let front = and_parts (is_part part && is_closed part) (are_parts (next ∷ parts)) are in
-    let both = and_parts (is_part part) (is_closed part) front.0 in
+    let first = and_parts (is_part part && is_closed part) (are_parts (next ∷ parts)) are in
+    let both = and_parts (is_part part) (is_closed part) first.0 in
     and_from (is_part (p ∷ part) && is_closed (p ∷ part)) (are_parts (next ∷ parts))
     (and_from (is_part (p ∷ part)) (is_closed (p ∷ part)) (part-with p part valid goes_on both.0)
-    (and_from (not (is_last p)) (is_closed part) (ap not goes_on) both.1)) front.1
+    (and_from (not (is_last p)) (is_closed part) (ap not goes_on) both.1)) first.1
 
 cut-piece : (p : Piece) (text : List ℕ) → is_piece p ≡ true → is_last p ≡ false → CutOf text → CutOf (piece_text p ++ text)
 cut-piece p text valid goes_on rest = record {
@@ -251,8 +251,8 @@ one_cut value =
     )
 
 -- a text of which the bytes up to a place are in its first part
-pub WalkedTo : List ℕ → ℕ → Place → Type 0
-WalkedTo text i place = cut_from Outside text ≡ put_first (take i text) (cut_from place (drop i text))
+pub WalkedTo : List ℕ → ℕ → State → Type 0
+WalkedTo text i state = cut_from Outside text ≡ put_first (take i text) (cut_from state (drop i text))
 
 pub walk-start : (text : List ℕ) → WalkedTo text 0 Outside
 unfolding WalkedTo
@@ -263,29 +263,29 @@ byte_at text i b less is =
     let next : suc i ≡ i + 1 = omega arith in
     drop-cons text i 0 less ∙ ap (λ c. c ∷ drop (suc i) text) (sym is) ∙ ap (λ n. b ∷ drop n text) next
 
-pub walk-more : (text : List ℕ) (i b : ℕ) (place : Place) → i < length text → b ≡ get_or text i 0 → is_cut place b ≡ false
-    → WalkedTo text i place → WalkedTo text (i + 1) (after place b)
+pub walk-more : (text : List ℕ) (i b : ℕ) (state : State) → i < length text → b ≡ get_or text i 0 → is_cut state b ≡ false
+    → WalkedTo text i state → WalkedTo text (i + 1) (state_after state b)
 unfolding WalkedTo
-walk-more text i b place less is stays before =
-    before ∙ ap (λ back. put_first (take i text) (cut_from place back)) (byte_at text i b less is)
-    ∙ ap (put_first (take i text)) (cut_from-byte place b (drop (i + 1) text) stays)
-    ∙ put_first-twice (take i text) (b ∷ []) (cut_from (after place b) (drop (i + 1) text))
-    ∙ ap (λ front. put_first front (cut_from (after place b) (drop (i + 1) text))) (ap (λ c. take i text ++ c ∷ []) is ∙ sym (take_more text i 0 less))
+walk-more text i b state less is stays before =
+    before ∙ ap (λ back. put_first (take i text) (cut_from state back)) (byte_at text i b less is)
+    ∙ ap (put_first (take i text)) (cut_from-byte state b (drop (i + 1) text) stays)
+    ∙ put_first-twice (take i text) (b ∷ []) (cut_from (state_after state b) (drop (i + 1) text))
+    ∙ ap (λ prefix. put_first prefix (cut_from (state_after state b) (drop (i + 1) text))) (ap (λ c. take i text ++ c ∷ []) is ∙ sym (take_more text i 0 less))
 
-pub walk-cut : (text : List ℕ) (i b : ℕ) (place : Place) → i < length text → b ≡ get_or text i 0 → is_cut place b ≡ true
-    → WalkedTo text i place → cut_from Outside text ≡ take i text ∷ cut_from Outside (take (length text - (i + 1)) (drop (i + 1) text))
+pub walk-cut : (text : List ℕ) (i b : ℕ) (state : State) → i < length text → b ≡ get_or text i 0 → is_cut state b ≡ true
+    → WalkedTo text i state → cut_from Outside text ≡ take i text ∷ cut_from Outside (take (length text - (i + 1)) (drop (i + 1) text))
 unfolding WalkedTo
-walk-cut text i b place less is cuts before =
-    let here : cut_from place (b ∷ drop (i + 1) text) ≡ [] ∷ cut_from Outside (drop (i + 1) text) = rw cuts refl in
-    before ∙ ap (λ back. put_first (take i text) (cut_from place back)) (byte_at text i b less is)
+walk-cut text i b state less is cuts before =
+    let here : cut_from state (b ∷ drop (i + 1) text) ≡ [] ∷ cut_from Outside (drop (i + 1) text) = rw cuts refl in
+    before ∙ ap (λ back. put_first (take i text) (cut_from state back)) (byte_at text i b less is)
     ∙ ap (put_first (take i text)) here
     ∙ ap (λ t. t ∷ cut_from Outside (drop (i + 1) text)) (append-nil (take i text))
     ∙ ap (λ t. take i text ∷ cut_from Outside t) (sym (take_all (length text - (i + 1)) (drop (i + 1) text) (omega (arith, length-drop (i + 1) text))))
 
-pub walk-end : (text : List ℕ) (i : ℕ) (place : Place) → length text ≤ i → WalkedTo text i place → cut_from Outside text ≡ text ∷ []
+pub walk-end : (text : List ℕ) (i : ℕ) (state : State) → length text ≤ i → WalkedTo text i state → cut_from Outside text ≡ text ∷ []
 unfolding WalkedTo
-walk-end text i place over before =
-    before ∙ ap (λ back. put_first (take i text) (cut_from place back)) (drop_of_length-le text over)
+walk-end text i state over before =
+    before ∙ ap (λ back. put_first (take i text) (cut_from state back)) (drop_of_length-le text over)
     ∙ ap (λ t. t ∷ []) (append-nil (take i text) ∙ take_all i text over)
 
 -- the first part and the others

@@ -9,7 +9,7 @@ use Rattle.mime_types.specs.Mime.{Mime, IsMime, HasNoMime}
 use Rattle.header_values.specs.declared.run.Run.{Run}
 use Rattle.header_values.specs.Cuts.{parts_of}
 use Rattle.header_values.specs.Extracted.{HaveRecords, is_any_type, kept_of, same_essence, first_run, last_run, charset_of, with_charset, answer_of, extracted_of}
-use Rattle.header_values.specs.Runs.{run_with, run_behind, answer_by, answer_in, last_in, IsRunOf, IsKeptMime, IsLastMime}
+use Rattle.header_values.specs.Runs.{run_with, run_after, answer_by, answer_in, last_in, IsRunOf, IsKeptMime, IsLastMime}
 use Rattle.header_values.proofs.ExtractLemmas.{kept_of-append, HaveRecords-append, last_run-ends, ends, extracted_of-none}
 
 -- ---- equal essences
@@ -32,7 +32,7 @@ one_essence m n same =
 same_itself : (m : Mime) → same_essence m m ≡ true
 same_itself m = and_from (bytes_eq m.main m.main) (bytes_eq m.sub m.sub) (same_text m.main) (same_text m.sub)
 
--- ---- the front of a list that passes a test
+-- ---- the prefix of a list that passes a test
 
 take_while-hit : (test : Mime → Bool) (m : Mime) (ms : List Mime) → test m ≡ true
     → take_while test (m ∷ ms) ≡ m ∷ take_while test ms
@@ -62,7 +62,7 @@ list_all-reversed test (m ∷ ms) are =
 
 -- ---- one record more
 
--- the records behind the run of a record
+-- the records after the run of a record
 take_while-same : (m x : Mime) (ms : List Mime) → HaveOneEssence m x → take_while (same_essence m) ms ≡ take_while (same_essence x) ms
 take_while-same m x ms same =
     ap (λ main. take_while (λ n. bytes_eq main n.main && bytes_eq m.sub n.sub) ms) same.main
@@ -158,21 +158,21 @@ pub record MimesTo (value : List ℕ) (rest : List (List ℕ)) (run : Option Run
 pub MimesTo-start : (value : List ℕ) (rest : List (List ℕ)) → rest ≡ parts_of value → MimesTo value rest None
 MimesTo-start value rest all = record { texts = []; records = []; whole = all; have = tt; is = refl }
 
-IsRunOf-behind : (ms ns : List Mime) (run : Option Run) (m : Option Mime) → IsRunOf ms run → ns ≡ option_to_list m
-    → IsRunOf (ms ++ ns) (run_behind run m)
-IsRunOf-behind ms ns run None is none = subst (λ l. IsRunOf l run) (sym (ap (λ l. ms ++ l) none ∙ append-nil ms)) is
-IsRunOf-behind ms ns run (Some m) is one =
+IsRunOf-after : (ms ns : List Mime) (run : Option Run) (m : Option Mime) → IsRunOf ms run → ns ≡ option_to_list m
+    → IsRunOf (ms ++ ns) (run_after run m)
+IsRunOf-after ms ns run None is none = subst (λ l. IsRunOf l run) (sym (ap (λ l. ms ++ l) none ∙ append-nil ms)) is
+IsRunOf-after ms ns run (Some m) is one =
     subst (λ l. IsRunOf l (Some (run_with run m))) (sym (ap (λ l. ms ++ l) one)) (IsRunOf-more ms run m is)
 
 pub MimesTo-more : (value text : List ℕ) (rest rest' : List (List ℕ)) (run : Option Run) (m : Option Mime) → rest ≡ text ∷ rest'
-    → IsKeptMime text m → MimesTo value rest run → MimesTo value rest' (run_behind run m)
+    → IsKeptMime text m → MimesTo value rest run → MimesTo value rest' (run_after run m)
 MimesTo-more value text rest rest' run m next (records, have, kept) before = record {
   texts = before.texts ++ text ∷ [];
   records = before.records ++ records;
   whole = append_assoc before.texts (text ∷ []) rest' ∙ ap (λ l. before.texts ++ l) (sym next) ∙ before.whole;
   have = HaveRecords-append before.texts before.records (text ∷ []) records before.have have;
-  is = subst (λ ms. IsRunOf ms (run_behind run m)) (sym (kept_of-append before.records records))
-      (IsRunOf-behind (kept_of before.records) (kept_of records) run m before.is kept);
+  is = subst (λ ms. IsRunOf ms (run_after run m)) (sym (kept_of-append before.records records))
+      (IsRunOf-after (kept_of before.records) (kept_of records) run m before.is kept);
 }
 
 all_read : (value : List ℕ) (rest texts : List (List ℕ)) → rest ≡ [] → texts ++ rest ≡ parts_of value → texts ≡ parts_of value

@@ -5,34 +5,34 @@ use Rattle.std.specs.Option.{option_copied}
 use Rattle.orb_bytes.specs.Ascii.{quotation_mark, comma, reverse_solidus}
 use Rattle.orb_bytes.specs.Bytes.{is_tab_or_space}
 use Rattle.orb_bytes.specs.Trim.{trimmed}
-use Rattle.header_values.specs.declared.split.Place.{Place}
-use Rattle.header_values.specs.declared.split.Place.TheVariants.{Outside, Inside, Escaped}
+use Rattle.header_values.specs.declared.split.State.{State}
+use Rattle.header_values.specs.declared.split.State.TheVariants.{Outside, Inside, Escaped}
 use Rattle.header_values.specs.declared.split.Parts.{Parts}
 use Rattle.header_values.specs.Parts.{IsParts}
 
--- where the byte behind this one stands
-abbrev pub after : Place → ℕ → Place
-after Outside b = if b == quotation_mark then Inside else Outside
-after Inside b = if b == quotation_mark then Outside else (if b == reverse_solidus then Escaped else Inside)
-after Escaped b = Inside
+-- the state in which the byte after this one stands
+abbrev pub state_after : State → ℕ → State
+state_after Outside b = if b == quotation_mark then Inside else Outside
+state_after Inside b = if b == quotation_mark then Outside else (if b == reverse_solidus then Escaped else Inside)
+state_after Escaped b = Inside
 
 -- a comma outside of the quoted strings
-abbrev pub is_cut : Place → ℕ → Bool
+abbrev pub is_cut : State → ℕ → Bool
 is_cut Outside b = b == comma
 is_cut Inside b = false
 is_cut Escaped b = false
 
--- the text in front of the first of these
+-- the text before the first of these
 abbrev pub put_first : List ℕ → List (List ℕ) → List (List ℕ)
-put_first front [] = []
-put_first front (text ∷ texts) = (front ++ text) ∷ texts
+put_first prefix [] = []
+put_first prefix (text ∷ texts) = (prefix ++ text) ∷ texts
 
--- the text cut at such commas, where its first byte stands at that place
-abbrev pub cut_from : Place → List ℕ → List (List ℕ)
-cut_from place [] = [] ∷ []
-cut_from place (b ∷ text) =
-    if is_cut place b then [] ∷ cut_from Outside text
-    else put_first (b ∷ []) (cut_from (after place b) text)
+-- the text cut at such commas, where its first byte stands in that state
+abbrev pub cut_from : State → List ℕ → List (List ℕ)
+cut_from state [] = [] ∷ []
+cut_from state (b ∷ text) =
+    if is_cut state b then [] ∷ cut_from Outside text
+    else put_first (b ∷ []) (cut_from (state_after state b) text)
 
 -- the one list of parts that a value has
 unfoldable pub parts_of : List ℕ → List (List ℕ)

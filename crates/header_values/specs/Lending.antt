@@ -1,4 +1,4 @@
--- A scratch behind a text that was lent from it.
+-- A scratch after a text that was lent from it.
 use Rattle.std.specs.Prelude.{◌≡◌, ℕ, ⊤}
 use Rattle.std.specs.Borrow.{MutBor, Fml, follows_so}
 use Rattle.header_values.specs.contracts.scratch.Scratch.{the_row}

@@ -12,10 +12,10 @@ run_with (Some run) mime =
     if same_essence mime run.first then record { first = run.first; last = Some mime }
     else record { first = mime; last = None }
 
--- the run behind one record more, if there is one
-abbrev pub run_behind : Option Run → Option Mime → Option Run
-run_behind run None = run
-run_behind run (Some mime) = Some (run_with run mime)
+-- the run after one record more, if there is one
+abbrev pub run_after : Option Run → Option Mime → Option Run
+run_after run None = run
+run_after run (Some mime) = Some (run_with run mime)
 
 -- the answer of a first and a last record
 abbrev pub answer_by : Mime → Option Mime → Mime

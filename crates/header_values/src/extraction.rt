@@ -97,7 +97,7 @@ fn last_mime(alloc: Global, value: &[u8]) -> Result<Option<MimeType>, NoMemory>
 {
     let mut run = None;
     for part in parts(value) {
-        run = Run::behind(run, kept_mime(alloc, part)?);
+        run = Run::after(run, kept_mime(alloc, part)?);
     }
     match run {
         Some(run) => Ok(Some(run.into_answer()?)),

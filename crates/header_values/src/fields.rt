@@ -94,7 +94,7 @@ impl<'a> Fields<'a> {
     }
 }
 
-/// Appends the value, behind `, ` where it follows another, and there is room for both.
+/// Appends the value, after `, ` where it follows another, and there is room for both.
 fn append_value(text: &mut Vec<u8>, follows: bool, value: &[u8])
     requires { length text.old.items + length value.now + 2 ≤ vec_capacity text.old }
     ensures items { text.new.items ≡ text.old.items ++ (separator follows ++ value.now) }

@@ -1,7 +1,7 @@
 //! The records of one essence that stand next to one another.
 ghost use Rattle.std.specs.Prelude.{◌≡◌, ◌&&◌, bytes_eq, if◌then◌else◌, Some, None, IfOk};
 ghost use Rattle.header_values.specs.Extracted.{same_essence};
-ghost use Rattle.header_values.specs.Runs.{run_with, run_behind, answer_in};
+ghost use Rattle.header_values.specs.Runs.{run_with, run_after, answer_in};
 
 use mime_types::MimeType;
 use orb_io::NoMemory;
@@ -16,10 +16,10 @@ pub(crate) struct Run {
 }
 
 impl Run {
-    /// The run behind one record more, if there is one. It begins anew where the essence is
+    /// The run after one record more, if there is one. It begins anew where the essence is
     /// another.
-    pub(crate) fn behind(run: Option<Run>, mime: Option<MimeType>) -> Option<Run>
-        ensures { result ≡ run_behind run mime }
+    pub(crate) fn after(run: Option<Run>, mime: Option<MimeType>) -> Option<Run>
+        ensures { result ≡ run_after run mime }
     {
         let Some(mime) = mime else {
             return run;

@@ -1,34 +1,34 @@
 //! The parts of a value, one after the other.
 //!
 //! One look at each byte is enough: whether a comma cuts hangs on the bytes before it by three
-//! places alone, outside of a quoted string, inside of one, and behind a `\` in one.
+//! states alone, outside of a quoted string, inside of one, and after a `\` in one.
 ghost use Rattle.std.specs.Prelude.{◌≡◌, ◌∷◌};
 ghost use Rattle.std.specs.Option.{option_copied};
-ghost use Rattle.header_values.specs.Cuts.{after as place_after, is_cut, cut_from, cuts_left};
+ghost use Rattle.header_values.specs.Cuts.{state_after, is_cut, cut_from, cuts_left};
 
 use orb_bytes::trim_tab_or_space;
 
 /// Where a byte of a value stands.
 #[derive(Clone, Copy)]
-enum Place {
+enum State {
     /// Outside of the quoted strings.
     Outside,
     /// In a quoted string.
     Inside,
-    /// Behind a `\` in a quoted string.
+    /// After a `\` in a quoted string.
     Escaped,
 }
 
-impl Place {
-    /// Where the byte behind this one stands.
-    fn after(self, b: u8) -> Place
-        ensures { result ≡ place_after self b }
+impl State {
+    /// Where the byte after this one stands.
+    fn after(self, b: u8) -> State
+        ensures { result ≡ state_after self b }
     {
         match (self, b) {
-            (Place::Outside, b'"') | (Place::Escaped, _) => Place::Inside,
-            (Place::Outside, _) | (Place::Inside, b'"') => Place::Outside,
-            (Place::Inside, b'\\') => Place::Escaped,
-            (Place::Inside, _) => Place::Inside,
+            (State::Outside, b'"') | (State::Escaped, _) => State::Inside,
+            (State::Outside, _) | (State::Inside, b'"') => State::Outside,
+            (State::Inside, b'\\') => State::Escaped,
+            (State::Inside, _) => State::Inside,
         }
     }
 
@@ -36,7 +36,7 @@ impl Place {
     fn cuts(self, b: u8) -> bool
         ensures { result ≡ is_cut self b }
     {
-        matches!(self, Place::Outside) && b == b','
+        matches!(self, State::Outside) && b == b','
     }
 }
 
@@ -65,17 +65,17 @@ impl<'a> Iterator for Parts<'a> {
     }
 }
 
-/// The text before the first comma outside of the quoted strings, and the text behind it; without
+/// The text before the first comma outside of the quoted strings, and the text after it; without
 /// such a comma the whole text, and `None`.
 fn split_part(text: &[u8]) -> (&[u8], Option<&[u8]>)
-    ensures { cut_from Place.Outside text.now ≡ result.0.now ∷ cuts_left (option_copied result.1) }
+    ensures { cut_from State.Outside text.now ≡ result.0.now ∷ cuts_left (option_copied result.1) }
 {
-    let mut place = Place::Outside;
+    let mut state = State::Outside;
     for (i, b) in text.iter().enumerate() {
-        if place.cuts(*b) {
+        if state.cuts(*b) {
             return (&text[..i], Some(&text[i + 1..]));
         }
-        place = place.after(*b);
+        state = state.after(*b);
     }
     (text, None)
 }

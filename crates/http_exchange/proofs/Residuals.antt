@@ -9,7 +9,7 @@ use Rattle.std.proofs.lemmas.Bool.Decides.{nat_tests}
 use Rattle.http_exchange.specs.Marks.{Mark, Frame, Content, framing, content}
 use Rattle.orb_bytes.specs.Ascii.{crlf}
 use Rattle.http_exchange.specs.Chunked.{is_line_byte, is_separator, is_ending, is_trailer, SizeLine, IsSizeLine, size_of, Chunked, chunk, last, IsChunked, spell_size, spell_trailers, spell}
-use Rattle.http_exchange.specs.Places.{is_content, with_left, behind_size, step, run, marks}
+use Rattle.http_exchange.specs.Places.{is_content, with_left, after_size, step, run, marks}
 use Rattle.http_exchange.specs.declared.places.Place.{Place}
 use Rattle.http_exchange.specs.declared.places.Place.TheVariants.{Size, SizeEnding, SizeLf, Data, DataCr, DataLf, LineStart, TrailerLine, TrailerLf, LastLf, Whole, Dead}
 
@@ -122,7 +122,7 @@ byte_back P b c bytes k same h = record {
 last_back : (P : List Mark → Type 0) (b c : ℕ) (k : List Mark) → b ≡ c → P k → BytesLeft (c ∷ []) P (Frame b ∷ k)
 last_back P b c k same h = record { rest = k; is = ap (λ e. Frame e ∷ k) same; behind = h }
 
-behind_left : (n : ℕ) (k : List Mark) → Left (behind_size n) k → BehindLeft n k
+behind_left : (n : ℕ) (k : List Mark) → Left (after_size n) k → BehindLeft n k
 behind_left zero k h = h
 behind_left (suc n) k h = h
 
@@ -274,7 +274,7 @@ back (SizeEnding n) b k h =
     ]
 back (SizeLf n) b k h =
     let P : Place → Type 0 = λ p. Left p k in
-    elim (split P (b == 10) (behind_size n) Dead h) [
+    elim (split P (b == 10) (after_size n) Dead h) [
       | inl x ↦ last_back (BehindLeft n) b 10 k (is_ten b x.0) (behind_left n k x.1)
       | inr x ↦ absurd x.1
     ]

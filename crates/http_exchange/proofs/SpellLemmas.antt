@@ -8,7 +8,7 @@ use Rattle.std.proofs.lemmas.Bool.Decides.{nat_tests}
 use Rattle.http_exchange.specs.Marks.{Mark, Frame, Content, bytes_of, framing, content}
 use Rattle.orb_bytes.specs.Ascii.{crlf}
 use Rattle.http_exchange.specs.Chunked.{is_line_byte, is_separator, is_ending, is_trailer, SizeLine, IsSizeLine, size_of, Chunked, chunk, last, IsChunked, spell_size, spell_trailers, spell}
-use Rattle.http_exchange.specs.Places.{is_content, with_left, behind_size, step, run, marks}
+use Rattle.http_exchange.specs.Places.{is_content, with_left, after_size, step, run, marks}
 use Rattle.http_exchange.specs.declared.places.Place.{Place}
 use Rattle.http_exchange.specs.declared.places.Place.TheVariants.{Size, SizeEnding, SizeLf, DataCr, LineStart, TrailerLine, Whole}
 
@@ -34,7 +34,7 @@ at p r k q e h = let P : Place → Type 0 = λ x. Follows x k q in subst P (sym 
 -- ---- the line of a size
 
 ending_follows : (bytes : List ℕ) (n : ℕ) (rest : List Mark) (q : Place) → list_all is_line_byte bytes ≡ true
-    → Follows (behind_size n) rest q → Follows (SizeEnding n) (framing bytes (framing crlf rest)) q
+    → Follows (after_size n) rest q → Follows (SizeEnding n) (framing bytes (framing crlf rest)) q
 ending_follows [] n rest q all h = (refl, (refl, h))
 ending_follows (b ∷ bytes) n rest q all h =
     let parts = and_parts (is_line_byte b) (list_all is_line_byte bytes) all in
@@ -60,7 +60,7 @@ separator_not_hex : (b : ℕ) → is_separator b ≡ true → is_ascii_hexdigit 
 separator_not_hex b h = grind (arith, nat_tests)
 
 ends_line : (ending : List ℕ) (n d : ℕ) (rest : List Mark) (q : Place) → 1 ≤ d → is_ending ending ≡ true
-    → Follows (behind_size n) rest q → Follows (Size n d) (framing ending (framing crlf rest)) q
+    → Follows (after_size n) rest q → Follows (Size n d) (framing ending (framing crlf rest)) q
 ends_line [] n d rest q some good h =
     (refl, at (step (Size n d) 13) (SizeLf n) (Frame 10 ∷ rest) q (rw (not_zero d some) refl) (refl, h))
 ends_line (b ∷ bytes) n d rest q some good h =
@@ -70,7 +70,7 @@ ends_line (b ∷ bytes) n d rest q some good h =
           (ending_follows bytes n rest q parts.1 h),
     )
 
-size_follows : (l : SizeLine) (rest : List Mark) (q : Place) → IsSizeLine l → Follows (behind_size (size_of l)) rest q
+size_follows : (l : SizeLine) (rest : List Mark) (q : Place) → IsSizeLine l → Follows (after_size (size_of l)) rest q
     → Follows (Size 0 0) (spell_size l rest) q
 size_follows l rest q good h =
     digits_follow l.digits 0 0 (length l.digits) _ q good.hex (omega (arith, good.few)) (omega arith)
@@ -83,7 +83,7 @@ data_follows : (load : List ℕ) (rest : List Mark) (q : Place) → Follows Data
 data_follows [] rest q h = h
 data_follows (b ∷ load) rest q h = (refl, data_follows load rest q h)
 
-behind_some : (n : ℕ) → 1 ≤ n → behind_size n ≡ with_left n
+behind_some : (n : ℕ) → 1 ≤ n → after_size n ≡ with_left n
 behind_some zero h = absurd (omega (arith, h))
 behind_some (suc n) h = refl
 
@@ -111,9 +111,9 @@ trailers_follow (text ∷ texts) all =
 pub body_follows : (c : Chunked) → IsChunked c → Follows (Size 0 0) (spell c) Whole
 body_follows (chunk line load others) good =
     size_follows line _ Whole good.0
-    (at (behind_size (size_of line)) (with_left (length load)) _ Whole
+    (at (after_size (size_of line)) (with_left (length load)) _ Whole
     (behind_some (size_of line) good.1 ∙ ap with_left (sym good.2))
     (data_follows load _ Whole (refl, (refl, body_follows others good.3))))
 body_follows (last line trailers) good =
     size_follows line _ Whole good.0
-    (at (behind_size (size_of line)) LineStart _ Whole (ap behind_size good.1) (trailers_follow trailers good.2))
+    (at (after_size (size_of line)) LineStart _ Whole (ap after_size good.1) (trailers_follow trailers good.2))

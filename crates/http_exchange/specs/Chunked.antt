@@ -1,4 +1,4 @@
--- Chunked bodies (RFC 9112 7.1), as a profile: a size has at most 15 digits, what stands behind it
+-- Chunked bodies (RFC 9112 7.1), as a profile: a size has at most 15 digits, what stands after it
 -- on its line isn't read further, and each line ends in CR LF.
 use Rattle.std.specs.Prelude.{◌≡◌, ℕ, ◌≤◌, Bool, true, ◌&&◌, nat_le, List, [], ◌∷◌, ◌++◌, length}
 use Rattle.std.specs.List.{list_all}
@@ -16,7 +16,7 @@ is_line_byte b = is_quoted_token_byte b
 abbrev pub is_separator : ℕ → Bool
 is_separator b = is_one_of (tab ∷ space ∷ semicolon ∷ []) b
 
--- the digits of a size (chunk-size), and what stands behind them on the line (chunk-ext)
+-- the digits of a size (chunk-size), and what stands after them on the line (chunk-ext)
 pub record SizeLine : Type 0 where
   pub digits : List ℕ
   pub ending : List ℕ

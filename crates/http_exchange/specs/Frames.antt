@@ -11,7 +11,7 @@ IsFront (frame.Length n) m given = (length m ≤ n) × (given ≡ m)
 IsFront frame.Chunked m given = IsChunkedFront m given
 IsFront frame.ToEnd m given = given ≡ m
 
--- the same, with content that is a front of this one
+-- the same, with content that is a prefix of this one
 abbrev pub HasFront : BodyFrame → List ℕ → List ℕ → Type 0
 HasFront f m given = (front : List ℕ) × (rest : List ℕ) × IsFront f m front × (given ≡ front ++ rest)
 
@@ -22,7 +22,7 @@ IsWhole (frame.Length n) m = length m ≡ n
 IsWhole frame.Chunked m = IsChunkedWhole m
 IsWhole frame.ToEnd m = ⊥
 
--- behind the bytes m, whose content is given, the piece has at the place a byte that no body of
+-- after the bytes m, whose content is given, the piece has at the place a byte that no body of
 -- the frame has there, the body isn't whole before it, and no content byte stands before it
 pub record IsBadAt (f : BodyFrame) (m given piece : List ℕ) (at : ℕ) : Type 0 where
   pub within : at < length piece

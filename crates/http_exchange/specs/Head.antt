@@ -1,4 +1,4 @@
--- Where a head ends: behind its first empty line (RFC 9112 2.1 and 2.2).
+-- Where a head ends: after its first empty line (RFC 9112 2.1 and 2.2).
 use Rattle.std.specs.Prelude.{ℕ, suc, Bool, List, [], ◌∷◌, ◌++◌, take, bytes_eq, Option, Some, None, if◌then◌else◌}
 use Rattle.std.specs.Option.{option_map}
 use Rattle.orb_bytes.specs.Ascii.{crlf}

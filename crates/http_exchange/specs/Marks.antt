@@ -1,5 +1,5 @@
 -- Bytes of a body as it is sent, each marked as framing or as content, so that what is sent says
--- of each front of it which content bytes it has.
+-- of each prefix of it which content bytes it has.
 use Rattle.std.specs.Prelude.{ℕ, List, [], ◌∷◌}
 
 pub data Mark : Type 0 where

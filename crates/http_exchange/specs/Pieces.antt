@@ -6,7 +6,7 @@ use Rattle.http_exchange.specs.declared.places.Place.TheVariants.{Dead}
 use Rattle.http_exchange.specs.declared.pieces.Taken.{Taken}
 use Rattle.http_exchange.specs.declared.pieces.Taken.TheVariants.{Got, Bad}
 
--- the first n bytes of the piece are framing, and behind them the place is q: content, the end of
+-- the first n bytes of the piece are framing, and after them the place is q: content, the end of
 -- the body, or the end of the piece
 pub record Passes (p q : Place) (piece : List ℕ) (n : ℕ) : Type 0 where
   pub within : n ≤ length piece
@@ -24,7 +24,7 @@ pub record Fails (p : Place) (piece : List ℕ) (at : ℕ) : Type 0 where
   pub unfinished : is_end (run p (take at piece)) ≡ false
   pub dead : run p (take (at + 1) piece) ≡ Dead
 
--- the body is content that stands at the front of the piece, and behind it no more content comes,
+-- the body is content that stands at the beginning of the piece, and after it no more content comes,
 -- or the piece ends
 pub record Takes (p q : Place) (piece body : List ℕ) : Type 0 where
   pub within : length body ≤ length piece

@@ -28,12 +28,12 @@ abbrev pub with_left : ℕ → Place
 with_left zero = DataCr
 with_left (suc n) = Data (suc n)
 
--- behind the line of a size
-abbrev pub behind_size : ℕ → Place
-behind_size zero = LineStart
-behind_size (suc n) = Data (suc n)
+-- after the line of a size
+abbrev pub after_size : ℕ → Place
+after_size zero = LineStart
+after_size (suc n) = Data (suc n)
 
--- the place behind one byte more
+-- the place after one byte more
 abbrev pub step : Place → ℕ → Place
 step (Size size digits) b =
     if is_ascii_hexdigit b then (if nat_lt digits 15 then Size (size * 16 + digit_value b) (digits + 1) else Dead)
@@ -41,7 +41,7 @@ step (Size size digits) b =
     else if is_separator b then SizeEnding size
     else if b == carriage_return then SizeLf size else Dead
 step (SizeEnding size) b = if is_line_byte b then SizeEnding size else if b == carriage_return then SizeLf size else Dead
-step (SizeLf size) b = if b == line_feed then behind_size size else Dead
+step (SizeLf size) b = if b == line_feed then after_size size else Dead
 step (Data zero) b = DataCr
 step (Data (suc n)) b = with_left n
 step DataCr b = if b == carriage_return then DataLf else Dead
@@ -53,7 +53,7 @@ step LastLf b = if b == line_feed then Whole else Dead
 step Whole b = Dead
 step Dead b = Dead
 
--- the place behind these bytes
+-- the place after these bytes
 abbrev pub run : Place → List ℕ → Place
 run p [] = p
 run p (b ∷ m) = run (step p b) m

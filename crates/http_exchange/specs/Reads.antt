@@ -11,7 +11,7 @@ use Rattle.http_exchange.specs.declared.unframing.Unframer.{Unframer}
 use Rattle.http_exchange.specs.declared.pieces.Taken.{Taken}
 use Rattle.http_exchange.specs.declared.pieces.Taken.TheVariants.{Got, Bad}
 
--- where the reading stands behind the bytes m of a body of the frame, of which given are content
+-- where the reading stands after the bytes m of a body of the frame, of which given are content
 abbrev pub StandsAt : Reading → BodyFrame → List ℕ → List ℕ → Type 0
 StandsAt (Counted left) frame.Empty m given = (left ≡ 0) × (m ≡ []) × (given ≡ [])
 StandsAt (Counted left) (frame.Length n) m given = (length m + left ≡ n) × (given ≡ m)
@@ -42,10 +42,10 @@ pub record Gets (u : Unframer) (f : BodyFrame) (m given piece body : List ℕ) (
   pub within : used ≤ length piece
   pub reads : HasRead u f (m ++ take used piece) (given ++ body)
   pub front : IsFront f (m ++ take used piece) (given ++ body)
-  -- a byte was read, unless there is none or the body is whole; and none behind its end
+  -- a byte was read, unless there is none or the body is whole; and none after its end
   pub moves : used ≡ 0 → 1 ≤ length piece → IsWhole f m
   pub stays : IsWhole f m → used ≡ 0
-  -- the byte behind those that were read isn't content
+  -- the byte after those that were read isn't content
   pub runs : used < length piece → (g : List ℕ) → IsFront f (m ++ take (used + 1) piece) g → g ≡ given ++ body
   -- where there is no content byte, the piece or the body ended
   pub rests : body ≡ [] → used < length piece → IsWhole f (m ++ take used piece)

@@ -14,7 +14,7 @@
 //! kept; content bytes are passed as a slice. `Whole` and `Dead` are for good.
 ghost use Rattle.std.specs.Prelude.{◌≡◌, ◌<◌, ◌≤◌, ◌^◌, false, IsTrue};
 ghost use Rattle.std.specs.Char.{is_ascii_hexdigit, digit_value};
-ghost use Rattle.http_exchange.specs.Places.{IsSound, is_content, is_dead, is_end, step, behind_size};
+ghost use Rattle.http_exchange.specs.Places.{IsSound, is_content, is_dead, is_end, step, after_size};
 
 use orb_bytes::is_quoted_token;
 
@@ -151,7 +151,7 @@ fn hex_value(b: u8) -> u8
 
 /// The place behind the line of a size.
 fn behind(size: u64) -> Place
-    ensures value { result ≡ behind_size size }
+    ensures value { result ≡ after_size size }
     ensures sound { IsSound result }
 {
     if size == 0 {

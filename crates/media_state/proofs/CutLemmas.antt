@@ -4,7 +4,7 @@ use Rattle.std.specs.List.{list_all, position, position_or_len}
 use Rattle.std.proofs.lemmas.Bool.{and_parts, not-true, eq-eqb, cases_Bool, ltb-false}
 use Rattle.std.proofs.lemmas.Bool.Decides.{eqb_tells}
 use Rattle.std.proofs.lemmas.List.{take_all}
-use Rattle.media_state.specs.Range.{before_byte, behind_byte}
+use Rattle.media_state.specs.Range.{before_byte, after_byte}
 
 abbrev pub HasNo : ℕ → List ℕ → Type 0
 HasNo stop text = list_all (λ b. not (b == stop)) text ≡ true
@@ -12,8 +12,8 @@ HasNo stop text = list_all (λ b. not (b == stop)) text ≡ true
 pub before_byte-stop : (stop b : ℕ) (text : List ℕ) → (b == stop) ≡ true → before_byte stop (b ∷ text) ≡ []
 before_byte-stop stop b text is = rw is refl
 
-pub behind_byte-stop : (stop b : ℕ) (text : List ℕ) → (b == stop) ≡ true → behind_byte stop (b ∷ text) ≡ text
-behind_byte-stop stop b text is = rw is refl
+pub after_byte-stop : (stop b : ℕ) (text : List ℕ) → (b == stop) ≡ true → after_byte stop (b ∷ text) ≡ text
+after_byte-stop stop b text is = rw is refl
 
 pub before_byte-more : (stop b : ℕ) (text : List ℕ) → (b == stop) ≡ false
     → before_byte stop (b ∷ text) ≡ b ∷ before_byte stop text
@@ -22,44 +22,44 @@ before_byte-more stop b text other =
     let next : 1 + n ≡ suc n = omega arith in
     ap (λ v. take (cond (not v) (1 + n) 0) (b ∷ text)) other ∙ ap (λ m. take m (b ∷ text)) next
 
-pub behind_byte-more : (stop b : ℕ) (text : List ℕ) → (b == stop) ≡ false
-    → behind_byte stop (b ∷ text) ≡ behind_byte stop text
-behind_byte-more stop b text other =
+pub after_byte-more : (stop b : ℕ) (text : List ℕ) → (b == stop) ≡ false
+    → after_byte stop (b ∷ text) ≡ after_byte stop text
+after_byte-more stop b text other =
     let n : ℕ = position_or_len (λ c. c == stop) text in
     let next : (1 + n) + 1 ≡ suc (n + 1) = omega arith in
     ap (λ v. drop (cond (not v) (1 + n) 0 + 1) (b ∷ text)) other ∙ ap (λ m. drop m (b ∷ text)) next
 
--- where something stands behind the byte, the text is what stands before it, the byte, and that
+-- where something stands after the byte, the text is what stands before it, the byte, and that
 pub rejoined : (stop : ℕ) (text : List ℕ)
-    → (text ≡ before_byte stop text ++ (stop ∷ behind_byte stop text)) ⊎ (behind_byte stop text ≡ [])
+    → (text ≡ before_byte stop text ++ (stop ∷ after_byte stop text)) ⊎ (after_byte stop text ≡ [])
 rejoined stop [] = inr refl
 rejoined stop (b ∷ text) =
     elim (eqb_tells b stop) [
       | inl here ↦
           let before = before_byte-stop stop b text here.0 in
-          let behind = behind_byte-stop stop b text here.0 in
+          let after = after_byte-stop stop b text here.0 in
           let same = here.1 in
-          inl (rw (before, behind) (ap (λ c. c ∷ text) same))
+          inl (rw (before, after) (ap (λ c. c ∷ text) same))
       | inr other ↦
           let before = before_byte-more stop b text other.0 in
-          let behind = behind_byte-more stop b text other.0 in
+          let after = after_byte-more stop b text other.0 in
           elim (rejoined stop text) [
-            | inl whole ↦ inl (rw (before, behind) (ap (λ rest. b ∷ rest) whole))
-            | inr none ↦ inr (behind ∙ none)
+            | inl whole ↦ inl (rw (before, after) (ap (λ rest. b ∷ rest) whole))
+            | inr none ↦ inr (after ∙ none)
           ]
     ]
 
--- a text made of a front without the byte, the byte and a back is cut into these
-pub cut_again : (stop : ℕ) (front back : List ℕ) → HasNo stop front
-    → (before_byte stop (front ++ (stop ∷ back)) ≡ front) × (behind_byte stop (front ++ (stop ∷ back)) ≡ back)
+-- a text made of a prefix without the byte, the byte and a back is cut into these
+pub cut_again : (stop : ℕ) (prefix back : List ℕ) → HasNo stop prefix
+    → (before_byte stop (prefix ++ (stop ∷ back)) ≡ prefix) × (after_byte stop (prefix ++ (stop ∷ back)) ≡ back)
 cut_again stop [] back none =
-    (before_byte-stop stop stop back (eq-eqb stop stop refl), behind_byte-stop stop stop back (eq-eqb stop stop refl))
-cut_again stop (b ∷ front) back none =
-    let parts = and_parts (not (b == stop)) (list_all (λ c. not (c == stop)) front) none in
+    (before_byte-stop stop stop back (eq-eqb stop stop refl), after_byte-stop stop stop back (eq-eqb stop stop refl))
+cut_again stop (b ∷ prefix) back none =
+    let parts = and_parts (not (b == stop)) (list_all (λ c. not (c == stop)) prefix) none in
     let other = not-true (b == stop) parts.0 in
-    let more = cut_again stop front back parts.1 in (
-      before_byte-more stop b (front ++ (stop ∷ back)) other ∙ ap (λ rest. b ∷ rest) more.0,
-      behind_byte-more stop b (front ++ (stop ∷ back)) other ∙ more.1,
+    let more = cut_again stop prefix back parts.1 in (
+      before_byte-more stop b (prefix ++ (stop ∷ back)) other ∙ ap (λ rest. b ∷ rest) more.0,
+      after_byte-more stop b (prefix ++ (stop ∷ back)) other ∙ more.1,
     )
 
 -- a test that follows from another on each byte
@@ -91,9 +91,9 @@ pub found_before : (stop : ℕ) (text : List ℕ) (place : ℕ) → position (λ
     → take place text ≡ before_byte stop text
 found_before stop text place is = ap (λ n. take n text) (sym (found_at stop text place is))
 
-pub found_behind : (stop : ℕ) (text : List ℕ) (place : ℕ) → position (λ b. b == stop) text ≡ Some place
-    → take (length text - (place + 1)) (drop (place + 1) text) ≡ behind_byte stop text
-found_behind stop text place is =
+pub found_after : (stop : ℕ) (text : List ℕ) (place : ℕ) → position (λ b. b == stop) text ≡ Some place
+    → take (length text - (place + 1)) (drop (place + 1) text) ≡ after_byte stop text
+found_after stop text place is =
     take_all (length text - (place + 1)) (drop (place + 1) text) (omega (arith, length-drop (place + 1) text))
     ∙ ap (λ n. drop (n + 1) text) (sym (found_at stop text place is))
 
@@ -101,6 +101,6 @@ pub all_before : (stop : ℕ) (text : List ℕ) → position (λ b. b == stop) t
 all_before stop text is =
     sym (take_all (position_or_len (λ b. b == stop) text) text (not_found stop text is))
 
-pub none_behind : (stop : ℕ) (text : List ℕ) → position (λ b. b == stop) text ≡ None → [] ≡ behind_byte stop text
-none_behind stop text is =
+pub none_after : (stop : ℕ) (text : List ℕ) → position (λ b. b == stop) text ≡ None → [] ≡ after_byte stop text
+none_after stop text is =
     sym (drop_of_length-le text (omega (arith, not_found stop text is)))

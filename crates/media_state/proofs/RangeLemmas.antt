@@ -13,7 +13,7 @@ use Rattle.orb_bytes.specs.Decimal.{decimal_of, is_decimal}
 use Rattle.orb_bytes.specs.Fields.{same_name}
 use Rattle.orb_bytes.proofs.DecimalLemmas.{ascii_digit_bounds}
 use Rattle.media_state.specs.declared.ranges.ContentRange.{ContentRange}
-use Rattle.media_state.specs.Range.{Written, print_range, IsComplete, IsInOrder, IsRange, known_length, complete_of, is_inside, range_from, before_byte, behind_byte, range_in, range_of}
+use Rattle.media_state.specs.Range.{Written, range_text, IsComplete, IsInOrder, IsRange, known_length, complete_of, is_inside, range_from, before_byte, after_byte, range_in, range_of}
 use Rattle.media_state.proofs.CutLemmas.{HasNo, rejoined, cut_again, list_all-weaker}
 
 -- a decimal number has digits alone
@@ -110,23 +110,23 @@ to_parts : (range : ContentRange) → IsInOrder range
 to_parts range order =
     rw (order_from range.first range.last range.complete order.forward order.inside) refl
 
--- the text behind a byte is not empty where something is read from it
-some_behind : (stop : ℕ) (text : List ℕ) → ¬ (behind_byte stop text ≡ [])
-    → text ≡ before_byte stop text ++ (stop ∷ behind_byte stop text)
-some_behind stop text some = elim (rejoined stop text) [ inl whole ↦ whole | inr none ↦ absurd (some none) ]
+-- the text after a byte is not empty where something is read from it
+some_after : (stop : ℕ) (text : List ℕ) → ¬ (after_byte stop text ≡ [])
+    → text ≡ before_byte stop text ++ (stop ∷ after_byte stop text)
+some_after stop text some = elim (rejoined stop text) [ inl whole ↦ whole | inr none ↦ absurd (some none) ]
 
 abbrev range_part : List ℕ → List ℕ
-range_part text = behind_byte 32 text
+range_part text = after_byte 32 text
 
 abbrev rest_part : List ℕ → List ℕ
-rest_part text = behind_byte 45 (range_part text)
+rest_part text = after_byte 45 (range_part text)
 
 abbrev pieces : List ℕ → Written
 pieces text = record {
   unit = before_byte 32 text;
   first = before_byte 45 (range_part text);
   last = before_byte 47 (rest_part text);
-  complete = behind_byte 47 (rest_part text);
+  complete = after_byte 47 (rest_part text);
 }
 
 abbrev Read : List ℕ → ContentRange → Type 0
@@ -146,11 +146,11 @@ read_to text range is =
       | inr other ↦ absurd (let none = rw other at is in cc)
     ]
 
-whole_of : (text : List ℕ) (range : ContentRange) → Read text range → text ≡ print_range (pieces text)
+whole_of : (text : List ℕ) (range : ContentRange) → Read text range → text ≡ range_text (pieces text)
 whole_of text range (unit, first, last, complete, order) =
-    let in_rest = some_behind 47 (rest_part text) (λ none. absurd (let lie : complete_of [] ≡ Some range.complete = ap complete_of (sym none) ∙ complete in cc)) in
-    let in_range = some_behind 45 (range_part text) (λ none. absurd (let lie : decimal_of (before_byte 47 []) ≡ Some range.last = ap (λ t. decimal_of (before_byte 47 t)) (sym none) ∙ last in cc)) in
-    let in_text = some_behind 32 text (λ none. absurd (let lie : decimal_of (before_byte 45 []) ≡ Some range.first = ap (λ t. decimal_of (before_byte 45 t)) (sym none) ∙ first in cc)) in
+    let in_rest = some_after 47 (rest_part text) (λ none. absurd (let lie : complete_of [] ≡ Some range.complete = ap complete_of (sym none) ∙ complete in cc)) in
+    let in_range = some_after 45 (range_part text) (λ none. absurd (let lie : decimal_of (before_byte 47 []) ≡ Some range.last = ap (λ t. decimal_of (before_byte 47 t)) (sym none) ∙ last in cc)) in
+    let in_text = some_after 32 text (λ none. absurd (let lie : decimal_of (before_byte 45 []) ≡ Some range.first = ap (λ t. decimal_of (before_byte 45 t)) (sym none) ∙ first in cc)) in
     in_text
     ∙ ap (λ t. before_byte 32 text ++ (32 ∷ t)) (in_range
     ∙ ap (λ t. before_byte 45 (range_part text) ++ (45 ∷ t)) in_rest)

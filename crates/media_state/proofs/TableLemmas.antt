@@ -82,7 +82,7 @@ admitted-new old new table id same updates absent =
     view-insert old new id Initial updates ∙ ap (λ t. map.insert t id Initial) same ∙ rw absent refl
 
 -- one id more, or none, where there is room for one
-pub len-more : (old : Option MediaState) (before behind : ℕ) → behind ≡ before + (if is_some old then 0 else 1)
-    → before ≤ 4096 → ¬ (before ≡ 4096) → behind ≤ 4096
-len-more None before behind more most room = omega arith
-len-more (Some v) before behind more most room = omega arith
+pub len-more : (old : Option MediaState) (before after : ℕ) → after ≡ before + (if is_some old then 0 else 1)
+    → before ≤ 4096 → ¬ (before ≡ 4096) → after ≤ 4096
+len-more None before after more most room = omega arith
+len-more (Some v) before after more most room = omega arith

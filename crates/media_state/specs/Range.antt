@@ -17,8 +17,8 @@ pub record Written : Type 0 where
   pub complete : List ℕ
 
 -- `unit first-last/complete`
-abbrev pub print_range : Written → List ℕ
-print_range w = w.unit ++ (space ∷ (w.first ++ (hyphen_minus ∷ (w.last ++ (solidus ∷ w.complete)))))
+abbrev pub range_text : Written → List ℕ
+range_text w = w.unit ++ (space ∷ (w.first ++ (hyphen_minus ∷ (w.last ++ (solidus ∷ w.complete)))))
 
 -- the complete length: a number, or `*` where it isn't known
 abbrev pub IsComplete : List ℕ → Option ℕ → Type 0
@@ -27,7 +27,7 @@ IsComplete text (Some length) = decimal_of text ≡ Some length
 
 -- the value is written so, and stands for the range; tabs and spaces at its ends are ignored
 pub record IsWritten (value : List ℕ) (range : ContentRange) (w : Written) : Type 0 where
-  pub whole : trimmed is_tab_or_space value ≡ print_range w
+  pub whole : trimmed is_tab_or_space value ≡ range_text w
   pub unit : IsTrue (same_name w.unit (codes "bytes"))
   pub first : decimal_of w.first ≡ Some range.first
   pub last : decimal_of w.last ≡ Some range.last
@@ -64,21 +64,21 @@ range_from (Some first) (Some last) (Some complete) =
     then Some (record { first = first; last = last; complete = complete })
     else None
 
--- the text before the first byte of that value, or all of it, and the text behind that byte
+-- the text before the first byte of that value, or all of it, and the text after that byte
 abbrev pub before_byte : ℕ → List ℕ → List ℕ
 before_byte stop text = before_first (λ b. b == stop) text
 
-abbrev pub behind_byte : ℕ → List ℕ → List ℕ
-behind_byte stop text = after_first (λ b. b == stop) text
+abbrev pub after_byte : ℕ → List ℕ → List ℕ
+after_byte stop text = after_first (λ b. b == stop) text
 
 -- the range of a text without white space at its ends
 abbrev pub range_in : List ℕ → Option ContentRange
 range_in text =
-    let range = behind_byte space text in
-    let rest = behind_byte hyphen_minus range in
+    let range = after_byte space text in
+    let rest = after_byte hyphen_minus range in
     if same_name (before_byte space text) (codes "bytes")
     then range_from (decimal_of (before_byte hyphen_minus range)) (decimal_of (before_byte solidus rest))
-    (complete_of (behind_byte solidus rest))
+    (complete_of (after_byte solidus rest))
     else None
 
 -- `IsRange` as a function: the range that the value stands for, if it does for one

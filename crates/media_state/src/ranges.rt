@@ -3,7 +3,7 @@
 //! Other units than `bytes`, and ranges that a server says it can't satisfy, are no ranges here.
 ghost use Rattle.std.specs.Prelude.{◌≡◌, ◌↔◌, ◌==◌, IfSome, IfNone, Some, List, ℕ, position};
 ghost use Rattle.media_state.specs.Range.{IsRange, range_of, range_from, complete_of};
-ghost use Rattle.media_state.specs.Range.{before_byte, behind_byte};
+ghost use Rattle.media_state.specs.Range.{before_byte, after_byte};
 ghost use Rattle.media_state.specs.declared.ranges.ContentRange.{ContentRange};
 
 use orb_bytes::{eq_ignore_case, read_decimal, trim_tab_or_space};
@@ -92,10 +92,10 @@ fn read_complete(text: &[u8]) -> Option<Option<u64>>
     }
 }
 
-/// The text before the first such byte and behind it; all of it and nothing where there is none.
+/// The text before the first such byte and after it; all of it and nothing where there is none.
 fn cut(stop: u8, text: &[u8]) -> (&[u8], &[u8])
     ensures before { result.0.now ≡ before_byte stop text.now }
-    ensures behind { result.1.now ≡ behind_byte stop text.now }
+    ensures after { result.1.now ≡ after_byte stop text.now }
 {
     match place_of(stop, text) {
         Some(place) => (&text[..place], &text[place + 1..]),

@@ -1,6 +1,6 @@
 //! A table of media states by id, in memory that is taken once.
 //!
-//! It is a hash map with room for all the ids that it may keep, so that nothing behind
+//! It is a hash map with room for all the ids that it may keep, so that nothing after
 //! [`MediaTable::open`] can fail for want of memory.
 ghost use Rattle.std.specs.Prelude.{◌≡◌, ◌↔◌, ◌≤◌, true, IfOk, OnOk, OnErr, IsErr};
 ghost use Rattle.std.specs.Ordering.{nat_cmp};

@@ -11,7 +11,7 @@ use Rattle.mime_types.specs.Mime.{Assigned, nothing, quoted, plain, assigned_tex
 use Rattle.mime_types.proofs.SpanLemmas.{span_unique}
 use Rattle.mime_types.proofs.BoolLemmas.{true_from_not_not}
 
--- what stands behind the units of a valid segment stops them
+-- what stands after the units of a valid segment stops them
 pub close_stops : (c : Close) (i r : List ℕ)
     → (if is_at_end c then is_empty i else list_all is_no_semicolon i) ≡ true
     → (is_at_end c ≡ true → r ≡ []) → stops_units (close_text c ++ (i ++ r)) ≡ true
@@ -116,7 +116,7 @@ assigned_unique (quoted us c i) (quoted vs d j) r q is_f is_g end_r end_q out_r 
 pub is_semicolon : (b : ℕ) (r : List ℕ) → begins_outside is_no_semicolon (b ∷ r) ≡ true → b ≡ 59
 is_semicolon b r out = eqb-true b 59 (true_from_not_not (nat_eq b 59) out)
 
--- what stands behind a name doesn't go on with it
+-- what stands after a name doesn't go on with it
 pub assigned_begins : (f : Assigned) (r : List ℕ) → begins_outside is_no_semicolon r ≡ true
     → begins_outside is_name_byte (assigned_text f ++ r) ≡ true
 assigned_begins nothing [] out = refl
@@ -125,7 +125,7 @@ assigned_begins nothing (b ∷ r) out =
 assigned_begins (quoted us c i) r out = refl
 assigned_begins (plain v) r out = refl
 
--- what stands behind the white space of a segment is no white space
+-- what stands after the white space of a segment is no white space
 pub name_begins : (name : List ℕ) (f : Assigned) (r : List ℕ) → begins_outside is_http_whitespace name ≡ true
     → begins_outside is_no_semicolon r ≡ true
     → begins_outside is_http_whitespace (name ++ (assigned_text f ++ r)) ≡ true
@@ -260,7 +260,7 @@ space_no_token b space =
 pub token_bytes : (text : List ℕ) → is_token text ≡ true → list_all is_token_byte text ≡ true
 token_bytes text token = (and_parts (not (is_empty text)) (list_all is_token_byte text) token).1
 
--- what stands behind the subtype is no token byte
+-- what stands after the subtype is no token byte
 pub space_begins : (space : List ℕ) (ss : List Segment) → list_all is_http_whitespace space ≡ true
     → begins_outside is_token_byte (space ++ segments_text ss) ≡ true
 space_begins [] [] are = refl
@@ -278,9 +278,9 @@ cut_unique text c d of_c of_d =
     (class_within is_token_byte is_no_slash c.main token_no_slash (token_bytes c.main of_c.main))
     (class_within is_token_byte is_no_slash d.main token_no_slash (token_bytes d.main of_d.main))
     refl refl (sym of_c.whole ∙ of_d.whole) in
-    let behind : c.sub ++ (c.space ++ segments_text c.segments) ≡ d.sub ++ (d.space ++ segments_text d.segments) = cc in
+    let after : c.sub ++ (c.space ++ segments_text c.segments) ≡ d.sub ++ (d.space ++ segments_text d.segments) = cc in
     let subs = span_unique is_token_byte c.sub d.sub _ _ (token_bytes c.sub of_c.sub) (token_bytes d.sub of_d.sub)
-    (space_begins c.space c.segments of_c.space) (space_begins d.space d.segments of_d.space) behind in
+    (space_begins c.space c.segments of_c.space) (space_begins d.space d.segments of_d.space) after in
     let spaces = span_unique is_http_whitespace c.space d.space _ _ of_c.space of_d.space
     (segments_outside c.segments) (segments_outside d.segments) subs.1 in
     let segments = segments_unique c.segments d.segments of_c.segments of_d.segments spaces.1 in

@@ -24,21 +24,21 @@ pub needs_slash : (text inner : List ℕ) → inner ≡ trimmed is_http_whitespa
     → HasNoMime text
 needs_slash text inner trim none mime is =
     let cut = is.0 in
-    let behind = 47 ∷ (cut.sub ++ (cut.space ++ segments_text cut.segments)) in
-    let all : list_all is_no_slash (cut.main ++ behind) ≡ true = ap (list_all is_no_slash) (sym is.1.whole ∙ sym trim) ∙ none in
-    let parts = and_parts (list_all is_no_slash cut.main) (list_all is_no_slash behind) (sym (list_all-append is_no_slash cut.main behind) ∙ all) in
+    let after = 47 ∷ (cut.sub ++ (cut.space ++ segments_text cut.segments)) in
+    let all : list_all is_no_slash (cut.main ++ after) ≡ true = ap (list_all is_no_slash) (sym is.1.whole ∙ sym trim) ∙ none in
+    let parts = and_parts (list_all is_no_slash cut.main) (list_all is_no_slash after) (sym (list_all-append is_no_slash cut.main after) ∙ all) in
     let lie : false ≡ true = parts.1 in cc
 
 -- the subtype of a cut is what stands between `/` and `;`, without the white space at its end
-pub essence_only : (text inner main behind field tail sub : List ℕ) (cut : Cut) → IsCut text cut
-    → inner ≡ trimmed is_http_whitespace text → inner ≡ main ++ (47 ∷ behind) → list_all is_no_slash main ≡ true
-    → Spans is_no_semicolon behind field tail → sub ≡ without_trailing is_http_whitespace field
+pub essence_only : (text inner main after field tail sub : List ℕ) (cut : Cut) → IsCut text cut
+    → inner ≡ trimmed is_http_whitespace text → inner ≡ main ++ (47 ∷ after) → list_all is_no_slash main ≡ true
+    → Spans is_no_semicolon after field tail → sub ≡ without_trailing is_http_whitespace field
     → (cut.main ≡ main) × (cut.sub ≡ sub)
-essence_only text inner main behind field tail sub cut is trim whole slash spans end =
+essence_only text inner main after field tail sub cut is trim whole slash spans end =
     let mains = span_unique is_no_slash cut.main main _ _
     (class_within is_token_byte is_no_slash cut.main token_no_slash (token_bytes cut.main is.main)) slash
     refl refl (sym is.whole ∙ sym trim ∙ whole) in
-    let rest : cut.sub ++ (cut.space ++ segments_text cut.segments) ≡ behind = cc in
+    let rest : cut.sub ++ (cut.space ++ segments_text cut.segments) ≡ after = cc in
     let inside : list_all is_no_semicolon (cut.sub ++ cut.space) ≡ true =
     list_all-append is_no_semicolon cut.sub cut.space
     ∙ and_from (list_all is_no_semicolon cut.sub) (list_all is_no_semicolon cut.space)
@@ -56,14 +56,14 @@ essence_only text inner main behind field tail sub cut is trim whole slash spans
     )
 
 -- tokens at both sides of the `/` are an essence
-pub essence_read : (text inner main behind field tail sub : List ℕ)
-    → inner ≡ trimmed is_http_whitespace text → inner ≡ main ++ (47 ∷ behind)
-    → Spans is_no_semicolon behind field tail → sub ≡ without_trailing is_http_whitespace field
+pub essence_read : (text inner main after field tail sub : List ℕ)
+    → inner ≡ trimmed is_http_whitespace text → inner ≡ main ++ (47 ∷ after)
+    → Spans is_no_semicolon after field tail → sub ≡ without_trailing is_http_whitespace field
     → is_token main ≡ true → is_token sub ≡ true → ReadsEssence text main sub tail
-essence_read text inner main behind field tail sub trim whole spans end is_main is_sub =
+essence_read text inner main after field tail sub trim whole spans end is_main is_sub =
     let space = trailing_of is_http_whitespace field in
-    let shown : behind ≡ sub ++ (space.0 ++ tail) =
-    spans.whole ∙ ap (λ front. front ++ tail) (space.2 ∙ ap (λ front. front ++ space.0) (sym end))
+    let shown : after ≡ sub ++ (space.0 ++ tail) =
+    spans.whole ∙ ap (λ prefix. prefix ++ tail) (space.2 ∙ ap (λ prefix. prefix ++ space.0) (sym end))
     ∙ append_assoc sub space.0 tail in
     record {
       space = space.0;

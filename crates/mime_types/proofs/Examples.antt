@@ -28,15 +28,15 @@ first_counts = (
   refl,
 )
 
--- `TEXT/HTML;Charset="utf-8" ;x=1 2`: small letters, and what stands behind the quotes is ignored
-small_letters : IsMime
+-- `TEXT/HTML;Charset="utf-8" ;x=1 2`: small letters, and what stands after the quotes is ignored
+ascii_lowercase : IsMime
     (codes "TEXT/HTML;Charset=" ++ (34 ∷ (codes "utf-8" ++ (34 ∷ codes " ;x=1 2"))))
     (record {
       main = codes "text";
       sub = codes "html";
       parameters = (codes "charset", codes "utf-8") ∷ (codes "x", codes "1 2") ∷ [];
     })
-small_letters = (
+ascii_lowercase = (
   record {
     main = codes "TEXT";
     sub = codes "HTML";

@@ -24,7 +24,7 @@ bytes_eq-sym a b =
     (λ same. (bytes_eq-Decides b a).1 (sym (same_text a b same)))
     (λ same. (bytes_eq-Decides a b).1 (sym (same_text b a same)))
 
--- a filter behind a weaker one
+-- a filter after a weaker one
 pub filter_within : {X : Type 0} (p q : X → Bool) (xs : List X) → ((x : X) → p x ≡ true → q x ≡ true)
     → filter p (filter q xs) ≡ filter p xs
 filter_within p q [] each = refl
@@ -53,7 +53,7 @@ filter_both {X} p q r (x ∷ xs) each =
           rw (fails, none) (filter_both p q r xs each)
     ] refl
 
--- what passes the test of all passes behind a filter
+-- what passes the test of all passes after a filter
 pub list_all-filter : {X : Type 0} (p q : X → Bool) (xs : List X) → list_all p xs ≡ true → list_all p (filter q xs) ≡ true
 list_all-filter p q [] are = refl
 list_all-filter {X} p q (x ∷ xs) are =
@@ -80,7 +80,7 @@ filter_all q (x ∷ xs) are =
     let passes : q x ≡ true = parts.0 in
     rw passes (ap (λ rest. x ∷ rest) (filter_all q xs parts.1))
 
--- a name that is new stays new behind a filter
+-- a name that is new stays new after a filter
 pub list_any-filter : {X : Type 0} (p q : X → Bool) (xs : List X) → list_any p xs ≡ false → list_any p (filter q xs) ≡ false
 list_any-filter p q [] none = refl
 list_any-filter {X} p q (x ∷ xs) none =
@@ -90,7 +90,7 @@ list_any-filter {X} p q (x ∷ xs) none =
       | false ↦ λ fails. rw fails (list_any-filter p q xs parts.1)
     ] refl
 
--- behind a filter nothing passes that passes its opposite
+-- after a filter nothing passes that passes its opposite
 pub list_any-filter_not : {X : Type 0} (p : X → Bool) (xs : List X) → list_any p (filter (λ x. not (p x)) xs) ≡ false
 list_any-filter_not p [] = refl
 list_any-filter_not {X} p (x ∷ xs) =

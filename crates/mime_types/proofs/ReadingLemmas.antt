@@ -12,11 +12,11 @@ use Rattle.mime_types.specs.Reading.{ReadsAssigned, ReadsSegment}
 use Rattle.mime_types.proofs.TrailingLemmas.{without_leading_begins}
 use Rattle.mime_types.proofs.CutLemmas.{is_semicolon}
 
--- a front of a text begins as the text does
-pub front_begins : (test : ℕ → Bool) (front back : List ℕ) → begins_outside test (front ++ back) ≡ true
-    → begins_outside test front ≡ true
-front_begins test [] back begins = refl
-front_begins test (b ∷ front) back begins = begins
+-- a prefix of a text begins as the text does
+pub prefix_begins : (test : ℕ → Bool) (prefix back : List ℕ) → begins_outside test (prefix ++ back) ≡ true
+    → begins_outside test prefix ≡ true
+prefix_begins test [] back begins = refl
+prefix_begins test (b ∷ prefix) back begins = begins
 
 -- nothing is assigned where a name ends and no `=` stands
 pub reads_nothing : (text : List ℕ) → begins_outside is_name_byte text ≡ true
@@ -37,39 +37,39 @@ reads_nothing text ends other = record {
   semicolon_left [] ends other = refl
   semicolon_left (b ∷ text) ends other = left (nat_eq b 59) (nat_eq b 61) ends other
 
-pub reads_plain : (text behind field rest : List ℕ) → text ≡ 61 ∷ behind
-    → begins_outside (λ b. nat_eq b 34) behind ≡ true → Spans is_no_semicolon behind field rest
+pub reads_plain : (text after field rest : List ℕ) → text ≡ 61 ∷ after
+    → begins_outside (λ b. nat_eq b 34) after ≡ true → Spans is_no_semicolon after field rest
     → ReadsAssigned text (plain field) rest
-reads_plain text behind field rest equals unquoted spans =
+reads_plain text after field rest equals unquoted spans =
     let begins : begins_outside (λ b. nat_eq b 34) (field ++ rest) ≡ true =
     ap (begins_outside (λ b. nat_eq b 34)) (sym spans.whole) ∙ unquoted in
     record {
       valid = and_from (begins_outside (λ b. nat_eq b 34) field) (list_all is_no_semicolon field)
-          (front_begins (λ b. nat_eq b 34) field rest begins) spans.inside;
+          (prefix_begins (λ b. nat_eq b 34) field rest begins) spans.inside;
       last = λ never. absurd (cc);
       begins = spans.stops;
       whole = equals ∙ ap (λ back. 61 ∷ back) spans.whole;
     }
 
-none_in : (front back : List ℕ) → front ++ back ≡ [] → (is_empty front ≡ true) × (back ≡ [])
+none_in : (prefix back : List ℕ) → prefix ++ back ≡ [] → (is_empty prefix ≡ true) × (back ≡ [])
 none_in [] back none = (refl, none)
-none_in (b ∷ front) back none = absurd (cc)
+none_in (b ∷ prefix) back none = absurd (cc)
 
--- what is ignored behind a quoted string
-ignored_valid : (c : Close) (behind ignored rest : List ℕ) → (is_at_end c ≡ true → behind ≡ [])
-    → Spans is_no_semicolon behind ignored rest
+-- what is ignored after a quoted string
+ignored_valid : (c : Close) (after ignored rest : List ℕ) → (is_at_end c ≡ true → after ≡ [])
+    → Spans is_no_semicolon after ignored rest
     → ((if is_at_end c then is_empty ignored else list_all is_no_semicolon ignored) ≡ true) × (is_at_end c ≡ true → rest ≡ [])
-ignored_valid by_quote behind ignored rest last spans = (spans.inside, λ never. absurd (cc))
-ignored_valid by_end behind ignored rest last spans =
+ignored_valid by_quote after ignored rest last spans = (spans.inside, λ never. absurd (cc))
+ignored_valid by_end after ignored rest last spans =
     let none = none_in ignored rest (sym spans.whole ∙ last refl) in (none.0, λ is. none.1)
-ignored_valid by_backslash behind ignored rest last spans =
+ignored_valid by_backslash after ignored rest last spans =
     let none = none_in ignored rest (sym spans.whole ∙ last refl) in (none.0, λ is. none.1)
 
-pub reads_string : (text inner string behind ignored rest : List ℕ) (units : List QuotedUnit) (c : Close)
-    → text ≡ 61 ∷ inner → inner ≡ 34 ∷ string → ReadsQuoted string units c behind
-    → Spans is_no_semicolon behind ignored rest → ReadsAssigned text (quoted units c ignored) rest
-reads_string text inner string behind ignored rest units c equals quote reads spans =
-    let end = ignored_valid c behind ignored rest reads.last spans in
+pub reads_string : (text inner string after ignored rest : List ℕ) (units : List QuotedUnit) (c : Close)
+    → text ≡ 61 ∷ inner → inner ≡ 34 ∷ string → ReadsQuoted string units c after
+    → Spans is_no_semicolon after ignored rest → ReadsAssigned text (quoted units c ignored) rest
+reads_string text inner string after ignored rest units c equals quote reads spans =
+    let end = ignored_valid c after ignored rest reads.last spans in
     record {
       valid = and_from (list_all is_unit units) (if is_at_end c then is_empty ignored else list_all is_no_semicolon ignored) reads.are end.0;
       last = end.1;
@@ -79,20 +79,20 @@ reads_string text inner string behind ignored rest units c equals quote reads sp
     }
 
 -- the segment that its parts make
-pub reads_segment : (text named name behind rest : List ℕ) (assigned : Assigned)
-    → named ≡ without_leading is_http_whitespace text → Spans is_name_byte named name behind
-    → ReadsAssigned behind assigned rest
+pub reads_segment : (text named name after rest : List ℕ) (assigned : Assigned)
+    → named ≡ without_leading is_http_whitespace text → Spans is_name_byte named name after
+    → ReadsAssigned after assigned rest
     → (space : List ℕ) × ReadsSegment (59 ∷ text) (record { space = space; name = name; assigned = assigned }) rest
-reads_segment text named name behind rest assigned trim spans reads =
+reads_segment text named name after rest assigned trim spans reads =
     let leading = leading_of is_http_whitespace text in
-    let outside : begins_outside is_http_whitespace (name ++ behind) ≡ true =
+    let outside : begins_outside is_http_whitespace (name ++ after) ≡ true =
     ap (begins_outside is_http_whitespace) (sym spans.whole ∙ trim) ∙ without_leading_begins is_http_whitespace text in (
       leading.0,
       record {
         valid = and_from (list_all is_http_whitespace leading.0)
             (begins_outside is_http_whitespace name && (list_all is_name_byte name && is_assigned assigned)) leading.1
             (and_from (begins_outside is_http_whitespace name) (list_all is_name_byte name && is_assigned assigned)
-            (front_begins is_http_whitespace name behind outside)
+            (prefix_begins is_http_whitespace name after outside)
             (and_from (list_all is_name_byte name) (is_assigned assigned) spans.inside reads.valid));
         last = reads.last;
         begins = reads.begins;
@@ -111,7 +111,7 @@ last_alone : (last alone : Bool) → (last ≡ true → alone ≡ true) → (not
 last_alone true alone rule = rule refl
 last_alone false alone rule = refl
 
--- a segment in front of others
+-- a segment before others
 pub more_segments : (text rest : List ℕ) (s : Segment) (segments : List Segment) → ReadsSegment text s rest
     → are_segments segments ≡ true → rest ≡ segments_text segments
     → (are_segments (s ∷ segments) ≡ true) × (text ≡ segments_text (s ∷ segments))
@@ -123,11 +123,11 @@ more_segments text rest s segments reads are whole = (
 )
 
 -- a tail that is not empty begins with `;`
-pub semicolon_first : (rest : List ℕ) (b : ℕ) (behind : List ℕ) → begins_outside is_no_semicolon rest ≡ true
-    → rest ≡ b ∷ behind → rest ≡ 59 ∷ behind
-semicolon_first rest b behind begins cut =
-    let first = is_semicolon b behind (ap (begins_outside is_no_semicolon) (sym cut) ∙ begins) in
-    cut ∙ ap (λ e. e ∷ behind) first
+pub semicolon_first : (rest : List ℕ) (b : ℕ) (after : List ℕ) → begins_outside is_no_semicolon rest ≡ true
+    → rest ≡ b ∷ after → rest ≡ 59 ∷ after
+semicolon_first rest b after begins cut =
+    let first = is_semicolon b after (ap (begins_outside is_no_semicolon) (sym cut) ∙ begins) in
+    cut ∙ ap (λ e. e ∷ after) first
 
 pub nothing_at : (rest : List ℕ) → length rest ≡ 0 → rest ≡ []
 nothing_at [] none = refl

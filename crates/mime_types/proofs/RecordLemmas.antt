@@ -48,7 +48,7 @@ lower_tokens (b ∷ text) are =
     and_from (is_token_byte (to_ascii_lowercase b)) (list_all is_token_byte (str_to_ascii_lowercase text))
     (lower_token b parts.0) (lower_tokens text parts.1)
 
--- a token in small letters
+-- a token in ASCII lowercase
 pub lower_small_token : (text : List ℕ) → is_token text ≡ true → is_lowercase_token (str_to_ascii_lowercase text) ≡ true
 lower_small_token [] token = absurd (cc)
 lower_small_token (b ∷ text) token =
@@ -157,9 +157,9 @@ value_found : (name : List ℕ) (pair : List ℕ × List ℕ) (pairs : List (Lis
     → value_of name (pair ∷ pairs) ≡ Some pair.1
 value_found name pair pairs same = rw same refl
 
-value_behind : (name : List ℕ) (pair : List ℕ × List ℕ) (pairs : List (List ℕ × List ℕ)) → bytes_eq pair.0 name ≡ false
+value_after : (name : List ℕ) (pair : List ℕ × List ℕ) (pairs : List (List ℕ × List ℕ)) → bytes_eq pair.0 name ≡ false
     → value_of name (pair ∷ pairs) ≡ value_of name pairs
-value_behind name pair pairs differ = rw differ refl
+value_after name pair pairs differ = rw differ refl
 
 -- where no value is found, the name is new
 pub no_value_new : (name : List ℕ) (pairs : List (List ℕ × List ℕ)) → value_of name pairs ≡ None → has_name name pairs ≡ false
@@ -167,7 +167,7 @@ no_value_new name [] none = refl
 no_value_new name (pair ∷ pairs) none =
     elim (bytes_eq pair.0 name) as (λ v. bytes_eq pair.0 name ≡ v → has_name name (pair ∷ pairs) ≡ false) [
       | true ↦ λ same. absurd (let lie : Some pair.1 ≡ None = sym (value_found name pair pairs same) ∙ none in cc)
-      | false ↦ λ differ. rw differ (no_value_new name pairs (sym (value_behind name pair pairs differ) ∙ none))
+      | false ↦ λ differ. rw differ (no_value_new name pairs (sym (value_after name pair pairs differ) ∙ none))
     ] refl
 
 -- a value that is found can stand between quotes
@@ -183,7 +183,7 @@ value_is_quoted name value (pair ∷ pairs) are found =
           ap (list_all is_quoted_token_byte) (sym inner)
           ∙ (and_parts (is_lowercase_token pair.0) (list_all is_quoted_token_byte pair.1) parts.0).1
       | false ↦ λ differ.
-          value_is_quoted name value pairs parts.1 (sym (value_behind name pair pairs differ) ∙ found)
+          value_is_quoted name value pairs parts.1 (sym (value_after name pair pairs differ) ∙ found)
     ] refl
 
 -- the record in memory, where a parameter was added or none could be

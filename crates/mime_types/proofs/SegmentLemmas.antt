@@ -11,16 +11,16 @@ use Rattle.mime_types.proofs.SpanLemmas.{span_of}
 use Rattle.mime_types.proofs.CutLemmas.{is_semicolon}
 use Rattle.mime_types.proofs.ReadingLemmas.{reads_nothing, reads_plain, reads_string, reads_segment, more_segments}
 
--- behind a name something is assigned, or nothing
+-- after a name something is assigned, or nothing
 abbrev AssignedIn : List ℕ → Type 0
 AssignedIn text = (assigned : Assigned) × (rest : List ℕ) × ReadsAssigned text assigned rest
 
-plain_of : (text behind : List ℕ) → text ≡ 61 ∷ behind → begins_outside (λ b. nat_eq b 34) behind ≡ true → AssignedIn text
-plain_of text behind equals unquoted =
-    let value = span_of is_no_semicolon behind in
-    (plain value.0, value.1, reads_plain text behind value.0 value.1 equals unquoted value.2)
+plain_of : (text after : List ℕ) → text ≡ 61 ∷ after → begins_outside (λ b. nat_eq b 34) after ≡ true → AssignedIn text
+plain_of text after equals unquoted =
+    let value = span_of is_no_semicolon after in
+    (plain value.0, value.1, reads_plain text after value.0 value.1 equals unquoted value.2)
 
-value_of : (text behind : List ℕ) → text ≡ 61 ∷ behind → AssignedIn text
+value_of : (text after : List ℕ) → text ≡ 61 ∷ after → AssignedIn text
 value_of text [] equals = plain_of text [] equals refl
 value_of text (b ∷ string) equals =
     elim (eqb_tells b 34) [

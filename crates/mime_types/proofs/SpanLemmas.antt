@@ -1,4 +1,4 @@
--- A text has one longest front of a class.
+-- A text has one longest prefix of a class.
 use Rattle.std.proofs.Common.{◌≡◌, ℕ, zero, suc, ◌<◌, ◌≤◌, Bool, true, false, not, List, [], ◌∷◌, ◌++◌, length, take, drop, get_or, Option, Some, None, unwrap_or, refl, sym, ap, ◌∙◌, arith, drop_of_length-le}
 use Rattle.std.proofs.Math.Seq.{drop-cons}
 use Rattle.std.proofs.lemmas.List.{take-append-drop, take_all}
@@ -30,14 +30,14 @@ span_unique test (c ∷ a) (d ∷ b) x y ina inb outx outy same =
     let rest : a ++ x ≡ b ++ y = cc in
     let parts = span_unique test a b x y (and_parts (test c) (list_all test a) ina).1
     (and_parts (test d) (list_all test b) inb).1 outx outy rest in
-    let fronts : a ≡ b = parts.0 in
+    let prefixes : a ≡ b = parts.0 in
     (cc, parts.1)
 
--- each text has such a front
-pub span_of : (test : ℕ → Bool) (text : List ℕ) → (front : List ℕ) × (back : List ℕ) × Spans test text front back
+-- each text has such a prefix
+pub span_of : (test : ℕ → Bool) (text : List ℕ) → (prefix : List ℕ) × (back : List ℕ) × Spans test text prefix back
 span_of test [] = ([], [], record { whole = refl; inside = refl; stops = refl })
 span_of test (b ∷ text) =
-    elim (test b) as (λ v. test b ≡ v → (front : List ℕ) × (back : List ℕ) × Spans test (b ∷ text) front back) [
+    elim (test b) as (λ v. test b ≡ v → (prefix : List ℕ) × (back : List ℕ) × Spans test (b ∷ text) prefix back) [
       | true ↦ λ inside. let more = span_of test text in (
         b ∷ more.0,
         more.1,
@@ -50,32 +50,32 @@ span_of test (b ∷ text) =
       | false ↦ λ outside. ([], b ∷ text, record { whole = refl; inside = refl; stops = ap not outside })
     ] refl
 
--- the front of a text in which a test passes nowhere
-pub front_fails : (test : ℕ → Bool) (n : ℕ) (text : List ℕ) → n ≤ length text
+-- the prefix of a text in which a test passes nowhere
+pub prefix_fails : (test : ℕ → Bool) (n : ℕ) (text : List ℕ) → n ≤ length text
     → ((k : ℕ) → k < n → test (get_or text k 0) ≡ true → ⊥) → list_all (λ b. not (test b)) (take n text) ≡ true
-front_fails test zero text within nowhere = refl
-front_fails test (suc n) [] within nowhere = absurd (omega arith)
-front_fails test (suc n) (b ∷ text) within nowhere =
+prefix_fails test zero text within nowhere = refl
+prefix_fails test (suc n) [] within nowhere = absurd (omega arith)
+prefix_fails test (suc n) (b ∷ text) within nowhere =
     and_from (not (test b)) (list_all (λ b. not (test b)) (take n text)) (not_from_never (test b) (nowhere 0 (omega arith)))
-    (front_fails test n text (omega arith) (λ k below. nowhere (suc k) (omega arith)))
+    (prefix_fails test n text (omega arith) (λ k below. nowhere (suc k) (omega arith)))
 
 -- the whole text, where the search finds none
 pub all_fail : (test : ℕ → Bool) (text : List ℕ)
     → ((k : ℕ) → 0 ≤ k → k < length text → test (get_or text k 0) ≡ true → ⊥) → list_all (λ b. not (test b)) text ≡ true
 all_fail test text nowhere =
     ap (list_all (λ b. not (test b))) (sym (take_all (length text) text (omega arith)))
-    ∙ front_fails test (length text) text (omega arith) (λ k below. nowhere k (omega arith) below)
+    ∙ prefix_fails test (length text) text (omega arith) (λ k below. nowhere k (omega arith) below)
 
 -- a search for the first byte of a class cuts the text where the class begins
 pub first_byte_spans : (test : ℕ → Bool) (text : List ℕ) (place : Option ℕ) → IsFirstByte test text place
     → Spans (λ b. not (test b)) text (take (unwrap_or place (length text)) text) (drop (unwrap_or place (length text)) text)
 first_byte_spans test text None found = record {
   whole = sym (take-append-drop (length text) text);
-  inside = front_fails test (length text) text (omega arith) (λ k below. found k (omega arith) below);
+  inside = prefix_fails test (length text) text (omega arith) (λ k below. found k (omega arith) below);
   stops = ap (begins_outside (λ b. not (test b))) (drop_of_length-le text (omega arith));
 }
 first_byte_spans test text (Some place) found = record {
   whole = sym (take-append-drop place text);
-  inside = front_fails test place text (omega (arith, found.0.high)) (λ k below. found.0.before k (omega arith) below);
+  inside = prefix_fails test place text (omega (arith, found.0.high)) (λ k below. found.0.before k (omega arith) below);
   stops = ap (begins_outside (λ b. not (test b))) (drop-cons text place 0 found.0.high) ∙ ap (λ v. not (not v)) found.1;
 }

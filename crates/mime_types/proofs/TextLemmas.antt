@@ -161,24 +161,24 @@ first_of_distinct (pair ∷ pairs) differ =
 
 -- the text ends in a byte outside the class
 record EndsOutside (test : ℕ → Bool) (text : List ℕ) : Type 0 where
-  front : List ℕ
+  prefix : List ℕ
   last : ℕ
-  whole : text ≡ front ++ last ∷ []
+  whole : text ≡ prefix ++ last ∷ []
   outside : test last ≡ false
 
-ends_behind : (test : ℕ → Bool) (front back : List ℕ) → EndsOutside test back → EndsOutside test (front ++ back)
-ends_behind test front back ends = record {
-  front = front ++ ends.front;
+ends_after : (test : ℕ → Bool) (prefix back : List ℕ) → EndsOutside test back → EndsOutside test (prefix ++ back)
+ends_after test prefix back ends = record {
+  prefix = prefix ++ ends.prefix;
   last = ends.last;
-  whole = ap (λ rest. front ++ rest) ends.whole ∙ sym (append_assoc front ends.front (ends.last ∷ []));
+  whole = ap (λ rest. prefix ++ rest) ends.whole ∙ sym (append_assoc prefix ends.prefix (ends.last ∷ []));
   outside = ends.outside;
 }
 
 ends_token : (b : ℕ) (text : List ℕ) → list_all is_token_byte (b ∷ text) ≡ true → EndsOutside is_http_whitespace (b ∷ text)
 ends_token b [] are =
-    record { front = []; last = b; whole = refl; outside = token_no_space b (and_parts (is_token_byte b) true are).0 }
+    record { prefix = []; last = b; whole = refl; outside = token_no_space b (and_parts (is_token_byte b) true are).0 }
 ends_token b (c ∷ text) are =
-    ends_behind is_http_whitespace (b ∷ []) (c ∷ text)
+    ends_after is_http_whitespace (b ∷ []) (c ∷ text)
     (ends_token c text (and_parts (is_token_byte b) (list_all is_token_byte (c ∷ text)) are).1)
 
 ends_in_token : (text : List ℕ) → is_token text ≡ true → EndsOutside is_http_whitespace text
@@ -189,21 +189,21 @@ ends_in_value : (value : List ℕ) → EndsOutside is_http_whitespace (value_tex
 ends_in_value value =
     elim (is_token value) as (λ v. is_token value ≡ v → EndsOutside is_http_whitespace (if v then value else 34 ∷ (flat_map quoted_byte value ++ (34 ∷ [])))) [
       | true ↦ λ token. ends_in_token value token
-      | false ↦ λ other. record { front = 34 ∷ flat_map quoted_byte value; last = 34; whole = refl; outside = refl }
+      | false ↦ λ other. record { prefix = 34 ∷ flat_map quoted_byte value; last = 34; whole = refl; outside = refl }
     ] refl
 
 ends_in_parameters : (sub : List ℕ) (pairs : List (List ℕ × List ℕ)) → is_token sub ≡ true
     → EndsOutside is_http_whitespace (sub ++ flat_map parameter_text pairs)
 ends_in_parameters sub [] token = subst (EndsOutside is_http_whitespace) (sym (append-nil sub)) (ends_in_token sub token)
 ends_in_parameters sub (pair ∷ pairs) token =
-    ends_behind is_http_whitespace sub (flat_map parameter_text (pair ∷ pairs)) (last_of pair pairs) where
+    ends_after is_http_whitespace sub (flat_map parameter_text (pair ∷ pairs)) (last_of pair pairs) where
       last_of : (pair : List ℕ × List ℕ) (pairs : List (List ℕ × List ℕ)) → EndsOutside is_http_whitespace (flat_map parameter_text (pair ∷ pairs))
       last_of pair [] =
           subst (EndsOutside is_http_whitespace) (sym (append-nil (parameter_text pair)))
-          (ends_behind is_http_whitespace (59 ∷ pair.0) (61 ∷ value_text pair.1)
-          (ends_behind is_http_whitespace (61 ∷ []) (value_text pair.1) (ends_in_value pair.1)))
+          (ends_after is_http_whitespace (59 ∷ pair.0) (61 ∷ value_text pair.1)
+          (ends_after is_http_whitespace (61 ∷ []) (value_text pair.1) (ends_in_value pair.1)))
       last_of pair (next ∷ pairs) =
-          ends_behind is_http_whitespace (parameter_text pair) (flat_map parameter_text (next ∷ pairs)) (last_of next pairs)
+          ends_after is_http_whitespace (parameter_text pair) (flat_map parameter_text (next ∷ pairs)) (last_of next pairs)
 
 begins_in_token : (text back : List ℕ) → is_token text ≡ true
     → without_leading is_http_whitespace (text ++ back) ≡ text ++ back
@@ -215,13 +215,13 @@ begins_in_token (b ∷ text) back token =
 ends_untrimmed : (text : List ℕ) → EndsOutside is_http_whitespace text → without_trailing is_http_whitespace text ≡ text
 ends_untrimmed text ends =
     ap (without_trailing is_http_whitespace) ends.whole
-    ∙ without_trailing-stop is_http_whitespace ends.front ends.last ends.outside ∙ sym ends.whole
+    ∙ without_trailing-stop is_http_whitespace ends.prefix ends.last ends.outside ∙ sym ends.whole
 
 pub text_is_parsed : (m : Mime) → IsRecord m → IsMime (text_of m) m
 text_is_parsed m is =
     let main = and_parts (is_token m.main) (list_all (λ b. not (is_ascii_uppercase b)) m.main) is.main in
     let sub = and_parts (is_token m.sub) (list_all (λ b. not (is_ascii_uppercase b)) m.sub) is.sub in
-    let ends = ends_behind is_http_whitespace (m.main ++ 47 ∷ []) (m.sub ++ flat_map parameter_text m.parameters) (ends_in_parameters m.sub m.parameters sub.0) in
+    let ends = ends_after is_http_whitespace (m.main ++ 47 ∷ []) (m.sub ++ flat_map parameter_text m.parameters) (ends_in_parameters m.sub m.parameters sub.0) in
     let regrouped : (m.main ++ 47 ∷ []) ++ (m.sub ++ flat_map parameter_text m.parameters) ≡ text_of m =
     append_assoc m.main (47 ∷ []) (m.sub ++ flat_map parameter_text m.parameters) in
     let cut : Cut = record { main = m.main; sub = m.sub; space = []; segments = map segment_of m.parameters } in

@@ -24,7 +24,7 @@ list_all-reverse test (b ∷ text) are =
     ∙ and_from (list_all test (reverse text)) (test b && true) (list_all-reverse test text parts.1)
     (and_from (test b) true parts.0 refl)
 
--- bytes of the class behind a text go
+-- bytes of the class after a text go
 pub without_trailing-append : (test : ℕ → Bool) (text trailing : List ℕ) → list_all test trailing ≡ true
     → without_trailing test (text ++ trailing) ≡ without_trailing test text
 without_trailing-append test text [] are = ap (without_trailing test) (append-nil text)

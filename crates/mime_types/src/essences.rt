@@ -1,6 +1,6 @@
 //! The type and subtype of a text, without its parameters (WHATWG MIME Sniffing 4.4).
 //!
-//! Whether a text is the text of a MIME type hangs on these two alone: every tail behind them is
+//! Whether a text is the text of a MIME type hangs on these two alone: every tail after them is
 //! some list of segments. So they are found with no walk over the parameters and no memory.
 ghost use Rattle.std.specs.Prelude.{IfSome, IfNone};
 ghost use Rattle.mime_types.specs.Mime.{IsEssence, WritesEssence, HasNoMime, HasOneRecord};
@@ -14,7 +14,7 @@ use orb_bytes::{trim_http_ws, trim_http_ws_end};
 pub struct Essence<'a> {
     /// What stands before the `/`.
     pub main: &'a [u8],
-    /// What stands behind the `/`, up to the parameters.
+    /// What stands after the `/`, up to the parameters.
     pub sub: &'a [u8],
 }
 
@@ -35,8 +35,8 @@ pub(crate) fn split_essence(text: &[u8]) -> Option<(&[u8], &[u8], &[u8])>
     ensures found { IfSome result (λ x. ReadsEssence text.now x.0.now x.1.now x.2.now) }
     ensures none { IfNone result (HasNoMime text.now) }
 {
-    let (main, behind) = split_once(b'/', trim_http_ws(text))?;
-    let (field, tail) = split_before(b';', behind);
+    let (main, after) = split_once(b'/', trim_http_ws(text))?;
+    let (field, tail) = split_before(b';', after);
     let sub = trim_http_ws_end(field);
     if is_nonempty_token(main) && is_nonempty_token(sub) {
         Some((main, sub, tail))

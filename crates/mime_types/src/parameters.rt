@@ -17,7 +17,7 @@ use crate::values::read_value;
 use orb_bytes::trim_http_ws_start;
 use std::alloc::{AllocError, Global};
 
-/// A name in small letters, and its value.
+/// A name in ASCII lowercase, and its value.
 #[derive(Debug, Drop)]
 pub(crate) struct Parameter {
     pub(crate) name: Vec<u8>,
@@ -31,14 +31,14 @@ pub(crate) fn read_parameters(alloc: Global, text: &[u8]) -> Result<Vec<Paramete
 {
     let mut kept = Vec::new(alloc);
     let mut rest = text;
-    'segments: while let Some((_, behind)) = rest.split_first() {
-        rest = read_segment(alloc, behind, &mut kept)?;
+    'segments: while let Some((_, after)) = rest.split_first() {
+        rest = read_segment(alloc, after, &mut kept)?;
     }
     Ok(kept)
 }
 
 /// Reads the segment whose `;` stands before the text, keeps what it stands for, and gives the text
-/// behind it.
+/// after it.
 fn read_segment<'t>(
     alloc: Global,
     text: &'t [u8],
@@ -47,8 +47,8 @@ fn read_segment<'t>(
     ensures { IfOk result (λ rest. (s : Segment) × ReadsSegment (semicolon ∷ text.now) s rest.now
         × (pairs_in kept.new.items ≡ kept_with (pairs_in kept.old.items) (pair_of s))) }
 {
-    let (name, behind) = split_name(trim_http_ws_start(text));
-    let (value, rest) = read_value(alloc, behind)?;
+    let (name, after) = split_name(trim_http_ws_start(text));
+    let (value, rest) = read_value(alloc, after)?;
     if let Some(value) = value {
         keep(kept, lowered(alloc, name)?, value)?;
     }
@@ -95,7 +95,7 @@ pub(crate) fn find_parameter<'p>(parameters: &'p [Parameter], name: &[u8]) -> Op
     parameters.iter().find(|p| p.name.as_slice() == name)
 }
 
-/// Adds a parameter of this name and value behind the others.
+/// Adds a parameter of this name and value after the others.
 pub(crate) fn add_copy(
     parameters: &mut Vec<Parameter>,
     name: &[u8],

@@ -38,7 +38,7 @@ impl From<AllocError> for MimeError {
 
 /// A MIME type: a type, a subtype, and parameters in their order.
 ///
-/// Type, subtype and names are tokens in small letters, no two names are equal, and each value is
+/// Type, subtype and names are tokens in ASCII lowercase, no two names are equal, and each value is
 /// one that can stand between quotes.
 #[derive(Debug, Drop)]
 pub struct MimeType {
@@ -78,7 +78,7 @@ impl MimeType {
         })
     }
 
-    /// The type, in small letters.
+    /// The type, in ASCII lowercase.
     pub fn main_type(&self) -> &[u8]
         ensures value { result.now ≡ self.now.main }
         ensures valid { IsRecord self.now }
@@ -86,7 +86,7 @@ impl MimeType {
         &self.main
     }
 
-    /// The subtype, in small letters.
+    /// The subtype, in ASCII lowercase.
     pub fn subtype(&self) -> &[u8]
         ensures value { result.now ≡ self.now.sub }
         ensures valid { IsRecord self.now }
@@ -114,7 +114,7 @@ impl MimeType {
         Some((&found.name, &found.value))
     }
 
-    /// Adds a parameter behind the others, whose name is a token in small letters that no other
+    /// Adds a parameter after the others, whose name is a token in ASCII lowercase that no other
     /// has, and whose value can stand between quotes.
     ///
     /// # Errors

@@ -11,7 +11,7 @@ use memchr::{memchr, memchr2};
 use orb_bytes::{is_quoted_token, is_token, lower};
 use std::alloc::{AllocError, Global};
 
-/// The text before the first such byte, and behind it; `None` exactly where there is none.
+/// The text before the first such byte, and after it; `None` exactly where there is none.
 pub(crate) fn split_once(stop: u8, text: &[u8]) -> Option<(&[u8], &[u8])>
     ensures cut { IfSome result (λ x. text.now ≡ x.0.now ++ (stop ∷ x.1.now)) }
     ensures first { IfSome result (λ x. AllPass (λ b. not (b == stop)) x.0.now) }
@@ -21,13 +21,13 @@ pub(crate) fn split_once(stop: u8, text: &[u8]) -> Option<(&[u8], &[u8])>
     Some((&text[..place], &text[place + 1..]))
 }
 
-/// The text behind the byte, where it begins with it.
+/// The text after the byte, where it begins with it.
 pub(crate) fn strip_byte(byte: u8, text: &[u8]) -> Option<&[u8]>
     ensures found { IfSome result (λ x. text.now ≡ byte ∷ x.now) }
     ensures none { IfNone result (begins_outside (λ b. b == byte) text.now ≡ true) }
 {
     match text.split_first() {
-        Some((first, behind)) if *first == byte => Some(behind),
+        Some((first, after)) if *first == byte => Some(after),
         _ => None,
     }
 }
@@ -40,7 +40,7 @@ pub(crate) fn split_before(stop: u8, text: &[u8]) -> (&[u8], &[u8])
     text.split_at(place)
 }
 
-/// The name at the front of the text, up to the first `;` or `=`, and from there on.
+/// The name at the beginning of the text, up to the first `;` or `=`, and from there on.
 pub(crate) fn split_name(text: &[u8]) -> (&[u8], &[u8])
     ensures { Spans is_name_byte text.now result.0.now result.1.now }
 {
@@ -69,7 +69,7 @@ pub(crate) fn are_quoted_token_bytes(text: &[u8]) -> bool
     text.iter().all(|b| is_quoted_token(*b))
 }
 
-/// The text in small letters.
+/// The text in ASCII lowercase.
 pub(crate) fn lowered(alloc: Global, text: &[u8]) -> Result<Vec<u8>, AllocError>
     ensures { IfOk result (λ v. v.items ≡ str_to_ascii_lowercase text.now) }
 {

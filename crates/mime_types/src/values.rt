@@ -14,15 +14,15 @@ pub(crate) fn read_value(alloc: Global, text: &[u8]) -> Result<(Option<Vec<u8>>,
     ensures { IfOk result (λ x. (assigned : Assigned) × ReadsAssigned text.now assigned x.1.now
         × (option_map (λ v. v.items) x.0 ≡ assigned_value assigned)) }
 {
-    let Some(behind) = strip_byte(b'=', text) else {
+    let Some(after) = strip_byte(b'=', text) else {
         return Ok((None, text));
     };
-    if let Some(string) = strip_byte(b'"', behind) {
-        let (value, behind) = read_quoted(alloc, string)?;
-        let (_, rest) = split_before(b';', behind);
+    if let Some(string) = strip_byte(b'"', after) {
+        let (value, after) = read_quoted(alloc, string)?;
+        let (_, rest) = split_before(b';', after);
         return Ok((Some(value), rest));
     }
-    let (field, rest) = split_before(b';', behind);
+    let (field, rest) = split_before(b';', after);
     Ok((plain_value(alloc, field)?, rest))
 }
 

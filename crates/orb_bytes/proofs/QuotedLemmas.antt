@@ -14,7 +14,7 @@ abbrev pub stops_units : List ℕ → Bool
 stops_units [] = true
 stops_units (b ∷ text) = nat_eq b 34 || (nat_eq b 92 && is_empty text)
 
--- a unit that stands for itself begins nothing that stands behind units
+-- a unit that stands for itself begins nothing that stands after units
 not_both : (quote slash last : Bool) → not (quote || slash) ≡ true → (quote || (slash && last)) ≡ true → ⊥
 not_both true slash last unit stop = cc
 not_both false true last unit stop = cc
@@ -134,19 +134,19 @@ more_units text value rest value' rest' unit reads is cut grown =
       reads.2 ∙ ap (λ back. flat_map unit_text units ++ back) cut
           ∙ ap (λ back. flat_map unit_text units ++ (back ++ rest')) (sym (append-nil (unit_text unit)))
           ∙ sym (append_assoc (flat_map unit_text units) (unit_text unit ++ []) rest')
-          ∙ ap (λ front. front ++ rest') (sym (flat_map-append unit_text units (unit ∷ []))),
-      grown ∙ ap (λ front. front ++ unit_value unit ∷ []) reads.3 ∙ sym (map-append unit_value units (unit ∷ [])),
+          ∙ ap (λ prefix. prefix ++ rest') (sym (flat_map-append unit_text units (unit ∷ []))),
+      grown ∙ ap (λ prefix. prefix ++ unit_value unit ∷ []) reads.3 ∙ sym (map-append unit_value units (unit ∷ [])),
     )
 
--- a unit in front of a quoted string's others
-pub reads_unit : (text : List ℕ) (unit : QuotedUnit) (rest : List ℕ) (units : List QuotedUnit) (c : Close) (behind : List ℕ)
-    → is_unit unit ≡ true → text ≡ unit_text unit ++ rest → ReadsQuoted rest units c behind
-    → ReadsQuoted text (unit ∷ units) c behind
-reads_unit text unit rest units c behind is cut reads = record {
+-- a unit before a quoted string's others
+pub reads_unit : (text : List ℕ) (unit : QuotedUnit) (rest : List ℕ) (units : List QuotedUnit) (c : Close) (after : List ℕ)
+    → is_unit unit ≡ true → text ≡ unit_text unit ++ rest → ReadsQuoted rest units c after
+    → ReadsQuoted text (unit ∷ units) c after
+reads_unit text unit rest units c after is cut reads = record {
   are = and_from (is_unit unit) (list_all is_unit units) is reads.are;
   last = reads.last;
   whole = cut ∙ ap (λ back. unit_text unit ++ back) reads.whole
-      ∙ sym (append_assoc (unit_text unit) (flat_map unit_text units) (close_text c ++ behind));
+      ∙ sym (append_assoc (unit_text unit) (flat_map unit_text units) (close_text c ++ after));
 }
 
 -- a byte that is neither `"` nor `\`
@@ -156,8 +156,8 @@ unit_itself b quote slash =
     let no_slash = ne_eqb b 92 slash in
     rw (no_quote, no_slash) refl
 
--- behind an opening quote stands some string
-pub quoted_of : (text : List ℕ) → (units : List QuotedUnit) × (close : Close) × (behind : List ℕ) × ReadsQuoted text units close behind
+-- after an opening quote stands some string
+pub quoted_of : (text : List ℕ) → (units : List QuotedUnit) × (close : Close) × (after : List ℕ) × ReadsQuoted text units close after
 quoted_of [] = ([], by_end, [], record { are = refl; last = λ is. refl; whole = refl })
 quoted_of (b ∷ []) =
     elim (eqb_tells b 34) [
@@ -203,7 +203,7 @@ unit_is b =
 pub units_print : (value : List ℕ) → flat_map unit_text (map unit_of value) ≡ flat_map quoted_byte value
 units_print [] = refl
 units_print (b ∷ value) =
-    ap (λ front. front ++ flat_map unit_text (map unit_of value)) (unit_prints b)
+    ap (λ prefix. prefix ++ flat_map unit_text (map unit_of value)) (unit_prints b)
     ∙ ap (λ back. quoted_byte b ++ back) (units_print value)
 
 pub units_stand : (value : List ℕ) → map unit_value (map unit_of value) ≡ value

@@ -64,10 +64,10 @@ has_place place row = nat_lt place (length row.bytes.now) && nat_lt place (lengt
 abbrev pub fits_at : ℕ → ℕ → Row → Bool
 fits_at place b row = bit_and b (slice_index row.mask.now place) == slice_index row.bytes.now place
 
--- it fits there, and the row ends behind the place
+-- it fits there, and the row ends after the place
 abbrev pub ends_with : ℕ → ℕ → Row → Bool
 ends_with place b row = fits_at place b row && place + 1 == length row.bytes.now
 
--- it fits there, and the row goes on behind the place
+-- it fits there, and the row goes on after the place
 abbrev pub goes_on_with : ℕ → ℕ → Row → Bool
 goes_on_with place b row = fits_at place b row && not (place + 1 == length row.bytes.now)

@@ -1,4 +1,4 @@
-//! Bytes put behind others, where there is room for them.
+//! Bytes put after others, where there is room for them.
 ghost use Rattle.std.specs.Prelude.{◌≡◌, ◌+◌, ◌≤◌, ◌++◌, length, vec_len, vec_capacity};
 
 use arrayvec::ArrayVec;

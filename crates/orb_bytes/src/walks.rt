@@ -69,7 +69,7 @@ impl Walk {
         self.whole_rows.first()
     }
 
-    /// Whether the bytes are just a row, and nothing stands behind it.
+    /// Whether the bytes are just a row, and nothing stands after it.
     pub fn just_whole(&self) -> bool
         ensures { (rows : List ARow) (text : List ℕ) → HasRead self.now rows text → result ≡ list_any (is_just_matched text) rows }
     {
@@ -87,7 +87,7 @@ impl Walk {
 /// Which rows the byte at a place fits.
 #[derive(Clone, Copy)]
 struct Fitting {
-    /// Those that go on behind the place.
+    /// Those that go on after the place.
     going_on: RowSet,
     /// Those that end there.
     ending: RowSet,

@@ -2,30 +2,30 @@
 use Rattle.std.proofs.Common.{◌≡◌, ℕ, ◌+◌, ◌%◌, ◌<◌, ◌≤◌, ◌⊎◌, inl, inr, Bool, true, false, ◌&&◌, ◌||◌, ◌==◌, nat_le, List, length, codes, Decides, refl, sym, ap, ◌∙◌, arith}
 use Rattle.std.proofs.lemmas.Bool.Decides.{nat_tests, Decides-eqb, Decides-and, Decides-or, Decides-like}
 use Rattle.signatures.specs.Patterns.{stands_at}
-use Rattle.signatures.specs.Mp4.{IsMp4, IsBrandPlace, box_size, is_compatible_mp4, has_compatible_mp4, is_mp4_window}
+use Rattle.signatures.specs.Mp4.{IsMp4, IsBrandOffset, box_size, is_compatible_mp4, has_compatible_mp4, is_mp4_window}
 use Rattle.signatures.proofs.PlaceLemmas.{some_below-Decides}
 
 pub leb-Decides : (a b : ℕ) → Decides (nat_le a b) (a ≤ b)
 leb-Decides a b = (λ is. grind (arith, nat_tests), λ is. grind (arith, nat_tests))
 
--- the test of one place
-pub compatible-Decides : (window : List ℕ) (place : ℕ)
-    → Decides (is_compatible_mp4 window place) (((16 ≤ place) × (place % 4 ≡ 0)) × (stands_at (codes "mp4") place window ≡ true))
-compatible-Decides window place =
-    Decides-and (nat_le 16 place && place % 4 == 0) (stands_at (codes "mp4") place window)
-    (Decides-and (nat_le 16 place) (place % 4 == 0) (leb-Decides 16 place) (Decides-eqb (place % 4) 0))
+-- the test of one offset
+pub compatible-Decides : (window : List ℕ) (offset : ℕ)
+    → Decides (is_compatible_mp4 window offset) (((16 ≤ offset) × (offset % 4 ≡ 0)) × (stands_at (codes "mp4") offset window ≡ true))
+compatible-Decides window offset =
+    Decides-and (nat_le 16 offset && offset % 4 == 0) (stands_at (codes "mp4") offset window)
+    (Decides-and (nat_le 16 offset) (offset % 4 == 0) (leb-Decides 16 offset) (Decides-eqb (offset % 4) 0))
     (λ is. is, λ is. is)
 
 fails : {P : Type 0} (b : Bool) → Decides b P → ¬ P → b ≡ false
 fails true tells never = absurd (never (tells.0 refl))
 fails false tells never = refl
 
--- no compatible brand from a place up to the next is `mp4`, where none stands at the place
-pub none_behind : (window : List ℕ) (place k : ℕ) → place % 4 ≡ 0 → stands_at (codes "mp4") place window ≡ false
-    → place ≤ k → k < place + 4 → is_compatible_mp4 window k ≡ false
-none_behind window place k aligned none from below =
+-- no compatible brand from an offset up to the next is `mp4`, where none stands at the offset
+pub none_after : (window : List ℕ) (offset k : ℕ) → offset % 4 ≡ 0 → stands_at (codes "mp4") offset window ≡ false
+    → offset ≤ k → k < offset + 4 → is_compatible_mp4 window k ≡ false
+none_after window offset k aligned none from below =
     fails (is_compatible_mp4 window k) (compatible-Decides window k)
-    (λ is. let same : k ≡ place = omega (arith, is.0.1) in
+    (λ is. let same : k ≡ offset = omega (arith, is.0.1) in
     let there : true ≡ false = sym is.1 ∙ ap (λ p. stands_at (codes "mp4") p window) same ∙ none in cc)
 
 pub none_before : (window : List ℕ) (k : ℕ) → k < 16 → is_compatible_mp4 window k ≡ false
@@ -33,7 +33,7 @@ none_before window k below =
     fails (is_compatible_mp4 window k) (compatible-Decides window k) (λ is. absurd (omega (arith, is.0.0)))
 
 abbrev Brand : List ℕ → Type 0
-Brand window = (place : ℕ) × IsBrandPlace (box_size window) place × (stands_at (codes "mp4") place window ≡ true)
+Brand window = (offset : ℕ) × IsBrandOffset (box_size window) offset × (stands_at (codes "mp4") offset window ≡ true)
 
 brand-Decides : (window : List ℕ)
     → Decides (stands_at (codes "mp4") 8 window || has_compatible_mp4 (box_size window) window) (Brand window)
@@ -50,8 +50,8 @@ brand-Decides window =
 
       from : Brand window → (stands_at (codes "mp4") 8 window ≡ true)
           ⊎ ((k : ℕ) × (k < box_size window) × (is_compatible_mp4 window k ≡ true))
-      from (place, inl major, is) = inl (ap (λ p. stands_at (codes "mp4") p window) (sym major) ∙ is)
-      from (place, inr more, is) = inr (place, more.2, (compatible-Decides window place).1 ((more.0, more.1), is))
+      from (offset, inl major, is) = inl (ap (λ p. stands_at (codes "mp4") p window) (sym major) ∙ is)
+      from (offset, inr more, is) = inr (offset, more.2, (compatible-Decides window offset).1 ((more.0, more.1), is))
 
 pub mp4-Decides : (window : List ℕ) → Decides (is_mp4_window window) (IsMp4 window)
 unfolding is_mp4_window
@@ -62,11 +62,11 @@ mp4-Decides window =
       aligned = is.1.0;
       inside = is.1.1.0;
       box = is.1.1.1.0;
-      place = is.1.1.1.1.0;
+      offset = is.1.1.1.1.0;
       brand = is.1.1.1.1.1;
       mp4 = is.1.1.1.1.2;
     })
-    (λ is. (is.long, (is.aligned, (is.inside, (is.box, (is.place, is.brand, is.mp4))))))
+    (λ is. (is.long, (is.aligned, (is.inside, (is.box, (is.offset, is.brand, is.mp4))))))
     (Decides-and (nat_le 12 (length window)) _ (leb-Decides 12 (length window))
     (Decides-and (box_size window % 4 == 0) _ (Decides-eqb (box_size window % 4) 0)
     (Decides-and (nat_le (box_size window) (length window)) _ (leb-Decides (box_size window) (length window))

@@ -22,14 +22,14 @@ layer_3-Decides second third =
     (Decides-and (nat_le 1 (bit_rate_index third)) _ (leb-Decides 1 (bit_rate_index third))
     (Decides-and (nat_le (bit_rate_index third) 14) _ (leb-Decides (bit_rate_index third) 14) (leb-Decides (sample_rate_index third) 2))))))
 
-pub header-Decides : (place : ℕ) (window : List ℕ) → Decides (is_frame_header place window) (IsFrameHeader place window)
-header-Decides place window =
-    Decides-like (is_frame_header place window)
+pub header-Decides : (offset : ℕ) (window : List ℕ) → Decides (is_frame_header offset window) (IsFrameHeader offset window)
+header-Decides offset window =
+    Decides-like (is_frame_header offset window)
     (λ is. record { inside = is.0; sync = is.1.0; layer_3 = is.1.1 })
     (λ is. (is.inside, (is.sync, is.layer_3)))
-    (Decides-and (nat_le (place + 4) (length window)) _ (leb-Decides (place + 4) (length window))
-    (Decides-and (slice_index window place == 0xff) _ (Decides-eqb (slice_index window place) 0xff)
-    (layer_3-Decides (slice_index window (place + 1)) (slice_index window (place + 2)))))
+    (Decides-and (nat_le (offset + 4) (length window)) _ (leb-Decides (offset + 4) (length window))
+    (Decides-and (slice_index window offset == 0xff) _ (Decides-eqb (slice_index window offset) 0xff)
+    (layer_3-Decides (slice_index window (offset + 1)) (slice_index window (offset + 2)))))
 
 pub mpeg-Decides : (window : List ℕ) → Decides (is_mpeg_window window) (IsMpegFrame window)
 unfolding is_mpeg_window

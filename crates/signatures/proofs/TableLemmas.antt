@@ -13,10 +13,10 @@ Table K = List ((List ℕ → Bool) × K)
 abbrev pub index_in : {K : Type 0} → Table K → List ℕ → Option ℕ
 index_in table window = position (λ row. row.0 window) table
 
--- what the row at an index shows, or the rows behind the table
+-- what the row at an index shows, or the rows after the table
 abbrev pub shown : {K : Type 0} → Table K → Option K → Option ℕ → Option K
-shown table behind None = behind
-shown table behind (Some k) = slice_get (map (λ row. row.1) table) k
+shown table from_offset None = from_offset
+shown table from_offset (Some k) = slice_get (map (λ row. row.1) table) k
 
 abbrev later : Option ℕ → Option ℕ
 later None = None
@@ -31,26 +31,26 @@ position_from-later test (x ∷ xs) n =
       | inr is ↦ rw is (position_from-later test xs (n + 1))
     ]
 
-shown-later : {K : Type 0} (row : (List ℕ → Bool) × K) (table : Table K) (behind : Option K) (o : Option ℕ)
-    → shown (row ∷ table) behind (later o) ≡ shown table behind o
-shown-later row table behind None = refl
-shown-later row table behind (Some k) = refl
+shown-later : {K : Type 0} (row : (List ℕ → Bool) × K) (table : Table K) (from_offset : Option K) (o : Option ℕ)
+    → shown (row ∷ table) from_offset (later o) ≡ shown table from_offset o
+shown-later row table from_offset None = refl
+shown-later row table from_offset (Some k) = refl
 
-by_index : {K : Type 0} (table behind : Table K) (window : List ℕ)
-    → first_match (table ++ behind) window ≡ shown table (first_match behind window) (position_from (λ row. row.0 window) 0 table)
-by_index [] behind window = refl
-by_index (row ∷ table) behind window =
+by_index : {K : Type 0} (table from_offset : Table K) (window : List ℕ)
+    → first_match (table ++ from_offset) window ≡ shown table (first_match from_offset window) (position_from (λ row. row.0 window) 0 table)
+by_index [] from_offset window = refl
+by_index (row ∷ table) from_offset window =
     elim (cases_Bool (row.0 window)) [
       | inl is ↦ rw is refl
       | inr is ↦
-          rw is (by_index table behind window
-          ∙ sym (shown-later row table (first_match behind window) (position_from (λ r. r.0 window) 0 table))
-          ∙ ap (shown (row ∷ table) (first_match behind window)) (sym (position_from-later (λ r. r.0 window) table 0)))
+          rw is (by_index table from_offset window
+          ∙ sym (shown-later row table (first_match from_offset window) (position_from (λ r. r.0 window) 0 table))
+          ∙ ap (shown (row ∷ table) (first_match from_offset window)) (sym (position_from-later (λ r. r.0 window) table 0)))
     ]
 
 -- the type that a table gives a window, by the least index
-pub first_match-by_index : {K : Type 0} (table behind : Table K) (window : List ℕ) (found : Option ℕ)
-    → found ≡ index_in table window → shown table (first_match behind window) found ≡ first_match (table ++ behind) window
-first_match-by_index table behind window found is =
-    ap (shown table (first_match behind window)) (is ∙ position_from-zero (λ row. row.0 window) table)
-    ∙ sym (by_index table behind window)
+pub first_match-by_index : {K : Type 0} (table from_offset : Table K) (window : List ℕ) (found : Option ℕ)
+    → found ≡ index_in table window → shown table (first_match from_offset window) found ≡ first_match (table ++ from_offset) window
+first_match-by_index table from_offset window found is =
+    ap (shown table (first_match from_offset window)) (is ∙ position_from-zero (λ row. row.0 window) table)
+    ∙ sym (by_index table from_offset window)

@@ -7,7 +7,7 @@ use Rattle.orb_bytes.specs.Ascii.{nul}
 use Rattle.orb_bytes.specs.Bytes.{is_one_of}
 use Rattle.orb_bytes.proofs.TrimLemmas.{without_leading-more, without_leading-stop}
 use Rattle.signatures.specs.Patterns.{stands_at, some_below}
-use Rattle.signatures.specs.Webm.{IsWebm, IsWebmDocType, ebml_header, doc_type, number_width, begins_padded, is_named_behind, is_webm_doc_type, is_webm_place, is_webm_window}
+use Rattle.signatures.specs.Webm.{IsWebm, IsWebmDocType, ebml_header, doc_type, number_width, begins_padded, is_named_after, is_webm_doc_type, is_webm_offset, is_webm_window}
 use Rattle.signatures.proofs.PlaceLemmas.{some_below-Decides}
 use Rattle.signatures.proofs.Mp4Lemmas.{leb-Decides}
 
@@ -50,10 +50,10 @@ abbrev Named : Option ℕ → List ℕ → Type 0
 Named number text = (first : ℕ) × (number ≡ Some first) × (first ≢ 0)
     × ((zeros : ℕ) × (stands_at (replicate zeros 0 ++ codes "webm") (2 + number_width first) text ≡ true))
 
-named-Decides : (number : Option ℕ) (text : List ℕ) → Decides (is_named_behind number text) (Named number text)
+named-Decides : (number : Option ℕ) (text : List ℕ) → Decides (is_named_after number text) (Named number text)
 named-Decides None text = (λ is. absurd (cc), λ is. let lie = is.1 in absurd (cc))
 named-Decides (Some first) text =
-    Decides-like (is_named_behind (Some first) text)
+    Decides-like (is_named_after (Some first) text)
     (λ is. (first, refl, is.0, padded_to (drop (2 + number_width first) text) is.1))
     (λ is. let same : first ≡ is.0 = cc in (
       λ none. is.2 (sym same ∙ none),
@@ -68,26 +68,26 @@ doc_type-Decides text =
     Decides-like (is_webm_doc_type text)
     (λ is. record { element = is.0; first = is.1.0; number = is.1.1; nonzero = is.1.2; zeros = is.1.3.0; name = is.1.3.1 })
     (λ is. (is.element, (is.first, is.number, is.nonzero, (is.zeros, is.name))))
-    (Decides-and (stands_at doc_type 0 text) (is_named_behind (slice_get text 2) text) (λ is. is, λ is. is)
+    (Decides-and (stands_at doc_type 0 text) (is_named_after (slice_get text 2) text) (λ is. is, λ is. is)
     (named-Decides (slice_get text 2) text))
 
-pub place-Decides : (window : List ℕ) (place : ℕ)
-    → Decides (is_webm_place window place) ((4 ≤ place) × IsWebmDocType (drop place window))
-place-Decides window place =
-    Decides-and (nat_le 4 place) (is_webm_doc_type (drop place window)) (leb-Decides 4 place) (doc_type-Decides (drop place window))
+pub offset-Decides : (window : List ℕ) (offset : ℕ)
+    → Decides (is_webm_offset window offset) ((4 ≤ offset) × IsWebmDocType (drop offset window))
+offset-Decides window offset =
+    Decides-and (nat_le 4 offset) (is_webm_doc_type (drop offset window)) (leb-Decides 4 offset) (doc_type-Decides (drop offset window))
 
 pub webm-Decides : (window : List ℕ) → Decides (is_webm_window window) (IsWebm window)
 unfolding is_webm_window
 webm-Decides window =
     Decides-like (is_webm_window window)
-    (λ is. let facts = (place-Decides window is.1.0).0 is.1.2 in
-    record { header = is.0; place = is.1.0; from = facts.0; below = is.1.1; named = facts.1 })
-    (λ is. (is.header, (is.place, is.below, (place-Decides window is.place).1 (is.from, is.named))))
-    (Decides-and (stands_at ebml_header 0 window) (some_below 38 (is_webm_place window)) (λ is. is, λ is. is)
-    (some_below-Decides (is_webm_place window) 38))
+    (λ is. let facts = (offset-Decides window is.1.0).0 is.1.2 in
+    record { header = is.0; offset = is.1.0; from = facts.0; below = is.1.1; named = facts.1 })
+    (λ is. (is.header, (is.offset, is.below, (offset-Decides window is.offset).1 (is.from, is.named))))
+    (Decides-and (stands_at ebml_header 0 window) (some_below 38 (is_webm_offset window)) (λ is. is, λ is. is)
+    (some_below-Decides (is_webm_offset window) 38))
 
--- a place from 4 on, by what stands there
-pub is_webm_place-from : (window : List ℕ) (place : ℕ) → 4 ≤ place → is_webm_doc_type (drop place window) ≡ true
-    → is_webm_place window place ≡ true
-is_webm_place-from window place from is =
-    and_from (nat_le 4 place) (is_webm_doc_type (drop place window)) ((leb-Decides 4 place).1 from) is
+-- an offset from 4 on, by what stands there
+pub is_webm_offset-from : (window : List ℕ) (offset : ℕ) → 4 ≤ offset → is_webm_doc_type (drop offset window) ≡ true
+    → is_webm_offset window offset ≡ true
+is_webm_offset-from window offset from is =
+    and_from (nat_le 4 offset) (is_webm_doc_type (drop offset window)) ((leb-Decides 4 offset).1 from) is

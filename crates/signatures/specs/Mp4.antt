@@ -9,8 +9,8 @@ box_size window = from_be_bytes w32 (take 4 window)
 
 -- where the box has a brand: the major brand at 8, and the compatible ones from 16 on, four bytes
 -- each. Between them stands the minor version.
-abbrev pub IsBrandPlace : ℕ → ℕ → Type 0
-IsBrandPlace size place = (place ≡ 8) ⊎ ((16 ≤ place) × (place % 4 ≡ 0) × (place < size))
+abbrev pub IsBrandOffset : ℕ → ℕ → Type 0
+IsBrandOffset size offset = (offset ≡ 8) ⊎ ((16 ≤ offset) × (offset % 4 ≡ 0) × (offset < size))
 
 -- the window matches the signature
 pub record IsMp4 (window : List ℕ) : Type 0 where
@@ -18,14 +18,14 @@ pub record IsMp4 (window : List ℕ) : Type 0 where
   pub aligned : box_size window % 4 ≡ 0
   pub inside : box_size window ≤ length window
   pub box : IsTrue (stands_at (codes "ftyp") 4 window)
-  pub place : ℕ
-  pub brand : IsBrandPlace (box_size window) place
-  pub mp4 : IsTrue (stands_at (codes "mp4") place window)
+  pub offset : ℕ
+  pub brand : IsBrandOffset (box_size window) offset
+  pub mp4 : IsTrue (stands_at (codes "mp4") offset window)
 
--- a compatible brand may stand at the place, and it is `mp4`
+-- a compatible brand may stand at the offset, and it is `mp4`
 abbrev pub is_compatible_mp4 : List ℕ → ℕ → Bool
-is_compatible_mp4 window place =
-    (nat_le 16 place && place % 4 == 0) && stands_at (codes "mp4") place window
+is_compatible_mp4 window offset =
+    (nat_le 16 offset && offset % 4 == 0) && stands_at (codes "mp4") offset window
 
 -- a compatible brand of a box of that size is `mp4`
 abbrev pub has_compatible_mp4 : ℕ → List ℕ → Bool

@@ -89,11 +89,11 @@ pub record IsLayer3 (second third : ℕ) : Type 0 where
   pub bit_rate_to : bit_rate_index third ≤ 14
   pub sample_rate_to : sample_rate_index third ≤ 2
 
--- a header of layer 3 stands at the place, four bytes inside the window
-pub record IsFrameHeader (place : ℕ) (window : List ℕ) : Type 0 where
-  pub inside : place + 4 ≤ length window
-  pub sync : slice_index window place ≡ sync_byte
-  pub layer_3 : IsLayer3 (slice_index window (place + 1)) (slice_index window (place + 2))
+-- a header of layer 3 stands at the offset, four bytes inside the window
+pub record IsFrameHeader (offset : ℕ) (window : List ℕ) : Type 0 where
+  pub inside : offset + 4 ≤ length window
+  pub sync : slice_index window offset ≡ sync_byte
+  pub layer_3 : IsLayer3 (slice_index window (offset + 1)) (slice_index window (offset + 2))
 
 -- the size of the frame at the window's beginning
 abbrev pub first_frame_size : List ℕ → ℕ
@@ -116,10 +116,10 @@ is_layer_3 second third =
 
 -- `IsFrameHeader` as a test
 abbrev pub is_frame_header : ℕ → List ℕ → Bool
-is_frame_header place window =
-    nat_le (place + 4) (length window)
-    && (slice_index window place == sync_byte
-    && is_layer_3 (slice_index window (place + 1)) (slice_index window (place + 2)))
+is_frame_header offset window =
+    nat_le (offset + 4) (length window)
+    && (slice_index window offset == sync_byte
+    && is_layer_3 (slice_index window (offset + 1)) (slice_index window (offset + 2)))
 
 -- `IsMpegFrame` as a test
 unfoldable pub is_mpeg_window : List ℕ → Bool

@@ -57,7 +57,7 @@ image_rows =
     ∷ (shows jpeg_bytes (exact 3), image.Jpeg)
     ∷ []
 
--- WHATWG MIME Sniffing 6.2, and the signatures of 6.2.1 to 6.2.3 behind its table
+-- WHATWG MIME Sniffing 6.2, and the signatures of 6.2.1 to 6.2.3 after its table
 unfoldable pub media_rows : List ((List ℕ → Bool) × MediaType)
 media_rows =
     (shows (codes "FORM" ++ (free 4 ++ codes "AIFF")) (exact 4 ++ (free 4 ++ exact 4)), media.Aiff)

@@ -30,32 +30,32 @@ pub record IsWebmDocType (text : List ℕ) : Type 0 where
   pub zeros : ℕ
   pub name : IsTrue (stands_at (replicate zeros nul ++ codes "webm") (2 + number_width first) text)
 
--- the window matches the signature: a DocType `webm` stands in it at a place from 4 and below 38
+-- the window matches the signature: a DocType `webm` stands in it at an offset from 4 and below 38
 pub record IsWebm (window : List ℕ) : Type 0 where
   pub header : IsTrue (stands_at ebml_header 0 window)
-  pub place : ℕ
-  pub from : 4 ≤ place
-  pub below : place < 38
-  pub named : IsWebmDocType (drop place window)
+  pub offset : ℕ
+  pub from : 4 ≤ offset
+  pub below : offset < 38
+  pub named : IsWebmDocType (drop offset window)
 
--- behind NUL bytes the text begins with `webm`
+-- after NUL bytes the text begins with `webm`
 abbrev pub begins_padded : List ℕ → Bool
 begins_padded text = starts_with nat_eq (without_leading (is_one_of (nul ∷ [])) text) (codes "webm")
 
--- behind the name and the number with that first byte the text is `webm`
-abbrev pub is_named_behind : Option ℕ → List ℕ → Bool
-is_named_behind None text = false
-is_named_behind (Some first) text =
+-- after the name and the number with that first byte the text is `webm`
+abbrev pub is_named_after : Option ℕ → List ℕ → Bool
+is_named_after None text = false
+is_named_after (Some first) text =
     not (first == nul) && begins_padded (drop (2 + number_width first) text)
 
 -- `IsWebmDocType` as a test
 abbrev pub is_webm_doc_type : List ℕ → Bool
-is_webm_doc_type text = stands_at doc_type 0 text && is_named_behind (slice_get text 2) text
+is_webm_doc_type text = stands_at doc_type 0 text && is_named_after (slice_get text 2) text
 
--- a DocType may be sought at the place, and it is `webm`
-abbrev pub is_webm_place : List ℕ → ℕ → Bool
-is_webm_place window place = nat_le 4 place && is_webm_doc_type (drop place window)
+-- a DocType may be sought at the offset, and it is `webm`
+abbrev pub is_webm_offset : List ℕ → ℕ → Bool
+is_webm_offset window offset = nat_le 4 offset && is_webm_doc_type (drop offset window)
 
 -- `IsWebm` as a test
 unfoldable pub is_webm_window : List ℕ → Bool
-is_webm_window window = stands_at ebml_header 0 window && some_below 38 (is_webm_place window)
+is_webm_window window = stands_at ebml_header 0 window && some_below 38 (is_webm_offset window)

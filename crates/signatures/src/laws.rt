@@ -5,7 +5,7 @@ ghost use Rattle.signatures.specs.Mp4.{is_mp4_window, IsMp4};
 ghost use Rattle.signatures.specs.Webm.{is_webm_window, IsWebm};
 ghost use Rattle.signatures.specs.Mpeg.{is_mpeg_window, IsMpegFrame};
 
-/// Law: a window matches a pattern exactly where each place of the pattern agrees.
+/// Law: a window matches a pattern exactly where each offset of the pattern agrees.
 pub fn match_is_by_place()
     ensures { (bytes mask : List ℕ) (skip : Bool) (window : List ℕ) → length mask ≡ length bytes
         → IsTrue (is_match bytes mask skip window) ↔ MatchesByPlace bytes mask skip window }

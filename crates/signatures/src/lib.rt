@@ -1,9 +1,10 @@
 //! Signatures of images, audio and video: what type the first bytes of a body show.
 //!
 //! WHATWG MIME Sniffing 6 gives the tables and the signatures of MP4, WebM and MP3. They are taken as
-//! a profile: a place past the window's end never matches, the length before a WebM DocType is passed
+//! a profile: an offset past the window's end never matches, the length before a WebM DocType is passed
 //! over and not read, and MP3 is layer 3 alone with a second header inside the window. A window may
-//! be any slice. `specs/Rows` has the tables, and a file of `specs/` each of the signatures behind
+//! be any slice. `audio/basic`, RAR, AVIF and JPEG XL are left out: the first bytes of such a body
+//! show no type. `specs/Rows` has the tables, and a file of `specs/` each of the signatures after
 //! them. Nothing here takes memory or fails.
 #![tactic(auto)]
 

@@ -1,4 +1,4 @@
-//! The table of audio and video (WHATWG MIME Sniffing 6.2), and the signatures behind it.
+//! The table of audio and video (WHATWG MIME Sniffing 6.2), and the signatures after it.
 ghost use Rattle.std.specs.Prelude.{◌≡◌};
 ghost use Rattle.signatures.specs.Rows.{media_of};
 
@@ -69,7 +69,7 @@ static MEDIA_TYPES: [MediaType; 6] = [
 ];
 
 /// The audio or video that the window shows: the first row of WHATWG MIME Sniffing 6.2 that matches,
-/// with MP4, WebM and MP3 without ID3 behind its table; `None` exactly where none does.
+/// with MP4, WebM and MP3 without ID3 after its table; `None` exactly where none does.
 #[tactic(auto, unfolding(crate::specs::Rows::media_rows))]
 pub fn media_type(window: &[u8]) -> Option<MediaType>
     ensures { result ≡ media_of window.now }

@@ -3,7 +3,7 @@ ghost use Rattle.std.specs.Prelude.{◌≡◌, ◌↔◌, IsTrue, List, ℕ, ◌
 ghost use Rattle.signatures.specs.Mpeg.{IsMpegFrame, is_mpeg_window, is_frame_header, is_layer_3 as layer_3};
 ghost use Rattle.signatures.specs.Mpeg.{frame_size as size_of_frame, bit_rate as rate_of_bits, sample_rate as rate_of_samples};
 
-use crate::patterns::behind;
+use crate::patterns::from_offset;
 
 /// Kilobits a second of version 1, for the indices 1 to 14.
 static VERSION_1_BIT_RATES: [u16; 14] = [
@@ -35,11 +35,11 @@ pub fn is_mp3(window: &[u8]) -> bool
     }
 }
 
-/// Whether a frame's header of layer 3 stands at the place.
-fn has_header_at(place: usize, window: &[u8]) -> bool
-    ensures { result ≡ is_frame_header place window.now }
+/// Whether a frame's header of layer 3 stands at the offset.
+fn has_header_at(offset: usize, window: &[u8]) -> bool
+    ensures { result ≡ is_frame_header offset window.now }
 {
-    match behind(place, window) {
+    match from_offset(offset, window) {
         [0xff, second, third, _, ..] => is_layer_3(*second, *third),
         _ => false,
     }
@@ -105,7 +105,7 @@ mod tests {
 
     #[test]
     fn a_second_header_follows_the_first_frame(rt: HostRuntime) {
-        // second and third byte of the headers, the place of the second header
+        // second and third byte of the headers, the offset of the second header
         let rows: [(u8, u8, usize, bool); 10] = [
             // 128 kilobits at 44,100 samples: 417 bytes, and one of padding
             (0xfb, 0x90, 417, true),
@@ -121,17 +121,17 @@ mod tests {
             (0xeb, 0x90, 417, false),
             (0xfd, 0x90, 417, false),
         ];
-        for (second, third, place, matches) in rows {
+        for (second, third, offset, matches) in rows {
             let mut window = [0; 422];
-            for start in [0, place] {
+            for start in [0, offset] {
                 if start <= 418 {
                     window[start..start + 4].copy_from_slice(&[0xff, second, third, 0]);
                 }
             }
-            let (shown, _) = window.split_at(usize::min(place, 418) + 4);
-            assert_eq!(rt; is_mp3(shown), matches, "{second} {third} {place}");
-            let (shorter, _) = window.split_at(usize::min(place, 418) + 3);
-            assert!(rt; !is_mp3(shorter), "{second} {third} {place}");
+            let (shown, _) = window.split_at(usize::min(offset, 418) + 4);
+            assert_eq!(rt; is_mp3(shown), matches, "{second} {third} {offset}");
+            let (shorter, _) = window.split_at(usize::min(offset, 418) + 3);
+            assert!(rt; !is_mp3(shorter), "{second} {third} {offset}");
         }
     }
 }

@@ -26,12 +26,12 @@ fn has_compatible_mp4(size: usize, window: &[u8]) -> bool
     requires { size ≤ length window.now }
     ensures { result ≡ has_mp4 size window.now }
 {
-    let mut place = 16;
-    'brands: while place < size {
-        if stands_at(b"mp4", place, window) {
+    let mut offset = 16;
+    'brands: while offset < size {
+        if stands_at(b"mp4", offset, window) {
             return true;
         }
-        place += 4;
+        offset += 4;
     }
     false
 }

@@ -17,7 +17,7 @@ pub struct Pattern {
 }
 
 impl Pattern {
-    /// Whether the window matches the pattern: behind its leading whitespace bytes, where those are
+    /// Whether the window matches the pattern: after its leading whitespace bytes, where those are
     /// ignored, it has a byte for each of the pattern's, and that byte under the mask is the
     /// pattern's.
     pub fn matches(&self, window: &[u8]) -> bool
@@ -32,21 +32,21 @@ impl Pattern {
     }
 }
 
-/// The window from the place on; empty where the place is past its end.
-pub fn behind(place: usize, window: &[u8]) -> &[u8]
-    ensures { result.now ≡ drop place window.now }
+/// The window from the offset on; empty where the offset is past its end.
+pub fn from_offset(offset: usize, window: &[u8]) -> &[u8]
+    ensures { result.now ≡ drop offset window.now }
 {
-    match window.get(place..) {
+    match window.get(offset..) {
         Some(rest) => rest,
         None => &[],
     }
 }
 
-/// Whether the text stands in the window at the place.
-pub fn stands_at(text: &[u8], place: usize, window: &[u8]) -> bool
-    ensures { result ≡ text_stands_at text.now place window.now }
+/// Whether the text stands in the window at the offset.
+pub fn stands_at(text: &[u8], offset: usize, window: &[u8]) -> bool
+    ensures { result ≡ text_stands_at text.now offset window.now }
 {
-    behind(place, window).starts_with(text)
+    from_offset(offset, window).starts_with(text)
 }
 
 #[cfg(test)]
@@ -65,7 +65,7 @@ mod tests {
             mask: b"\xdf\0\xff",
             skip_space: true,
         };
-        // window, matched as it is, matched behind white space
+        // window, matched as it is, matched after white space
         let rows: [(&[u8], bool, bool); 8] = [
             (b"A\xffC", true, true),
             (b"a.CD", true, true),
@@ -76,9 +76,9 @@ mod tests {
             (b"\x0bA.C", false, false),
             (b" ", false, false),
         ];
-        for (window, as_it_is, behind_space) in rows {
+        for (window, as_it_is, after_space) in rows {
             assert_eq!(rt; plain.matches(window), as_it_is, "{window:?}");
-            assert_eq!(rt; skipping.matches(window), behind_space, "{window:?}");
+            assert_eq!(rt; skipping.matches(window), after_space, "{window:?}");
         }
     }
 }

@@ -1,12 +1,12 @@
 //! WebM (WHATWG MIME Sniffing 6.2.2).
 ghost use Rattle.std.specs.Prelude.{◌≡◌, ◌↔◌, IsTrue, ◌==◌};
 ghost use Rattle.signatures.specs.Patterns.{some_below};
-ghost use Rattle.signatures.specs.Webm.{IsWebm, is_webm_window, is_webm_doc_type, is_webm_place};
+ghost use Rattle.signatures.specs.Webm.{IsWebm, is_webm_window, is_webm_doc_type, is_webm_offset};
 
-use crate::patterns::{behind, stands_at};
+use crate::patterns::{from_offset, stands_at};
 use orb_bytes::trim_start;
 
-/// Whether the window begins with an EBML header and names the DocType `webm` soon behind it.
+/// Whether the window begins with an EBML header and names the DocType `webm` soon after it.
 #[tactic(auto, unfolding(crate::specs::Webm::is_webm_window))]
 pub fn is_webm(window: &[u8]) -> bool
     ensures test { result ≡ is_webm_window window.now }
@@ -15,12 +15,12 @@ pub fn is_webm(window: &[u8]) -> bool
     stands_at(b"\x1a\x45\xdf\xa3", 0, window) && has_webm_doc_type(window)
 }
 
-/// Whether a DocType `webm` stands at a place from 4 and below 38.
+/// Whether a DocType `webm` stands at an offset from 4 and below 38.
 fn has_webm_doc_type(window: &[u8]) -> bool
-    ensures { result ≡ some_below 38 (is_webm_place window.now) }
+    ensures { result ≡ some_below 38 (is_webm_offset window.now) }
 {
-    for place in 4..38 {
-        if is_doc_type(behind(place, window)) {
+    for offset in 4..38 {
+        if is_doc_type(from_offset(offset, window)) {
             return true;
         }
     }
@@ -33,7 +33,8 @@ fn is_doc_type(text: &[u8]) -> bool
 {
     match text {
         [0x42, 0x82, first, rest @ ..] if *first != 0 => {
-            trim_start(behind(first.leading_zeros() as usize, rest), b"\0").starts_with(b"webm")
+            let name = from_offset(first.leading_zeros() as usize, rest);
+            trim_start(name, b"\0").starts_with(b"webm")
         }
         _ => false,
     }
@@ -44,7 +45,7 @@ mod tests {
     use super::*;
 
     #[test]
-    fn doc_types_are_read_behind_the_header(rt: HostRuntime) {
+    fn doc_types_are_read_after_the_header(rt: HostRuntime) {
         let rows: [(&[u8], bool); 9] = [
             (b"\x1a\x45\xdf\xa3\x9f\x42\x82\x84webm", true),
             // as a muxer writes it
@@ -67,11 +68,11 @@ mod tests {
 
     #[test]
     fn doc_types_are_sought_below_place_38(rt: HostRuntime) {
-        for (place, matches) in [(4, true), (37, true), (38, false)] {
+        for (offset, matches) in [(4, true), (37, true), (38, false)] {
             let mut window = [0xec; 48];
             window[..4].copy_from_slice(b"\x1a\x45\xdf\xa3");
-            window[place..place + 7].copy_from_slice(b"\x42\x82\x84webm");
-            assert_eq!(rt; is_webm(&window), matches, "{place}");
+            window[offset..offset + 7].copy_from_slice(b"\x42\x82\x84webm");
+            assert_eq!(rt; is_webm(&window), matches, "{offset}");
         }
     }
 }

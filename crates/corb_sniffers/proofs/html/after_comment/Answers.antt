@@ -5,13 +5,13 @@ use Rattle.corb_sniffers.specs.HtmlReading.{IsNoComment}
 use Rattle.corb_sniffers.proofs.CommentLemmas.{end, none_ends, found_ends}
 use Rattle.corb_sniffers.proofs.html.after_comment.Goals as goal
 
--- the text is `<!--` and what is behind it
+-- the text is `<!--` and what is after it
 begun : (text inside : List ℕ) → take 4 text ≡ codes "<!--" → inside ≡ drop 4 text → text ≡ codes "<!--" ++ inside
 begun text inside run rest =
     sym (take-append-drop 4 text) ∙ ap (λ t. t ++ drop 4 text) run ∙ ap (λ t. codes "<!--" ++ t) (sym rest)
 
-behind_begun : (one other : List ℕ) → codes "<!--" ++ one ≡ codes "<!--" ++ other → one ≡ other
-behind_begun one other same = cc
+after_begun : (one other : List ℕ) → codes "<!--" ++ one ≡ codes "<!--" ++ other → one ≡ other
+after_begun one other same = cc
 
 pub returns-in_err-end : goal.returns-in_err-end
 returns-in_err-end c =
@@ -20,7 +20,7 @@ returns-in_err-end c =
     let cases = c.in_ok-inside.ensures.cases in
     let cut = begun text inside (same_text (take 4 text) (codes "<!--") (sym cases.0)) cases.1 in
     let none : IsNoComment text = λ within rest first same.
-    none_ends inside c.in_err-end.ensures within rest (behind_begun inside (within ++ (end ++ rest)) (sym cut ∙ same)) in
+    none_ends inside c.in_err-end.ensures within rest (after_begun inside (within ++ (end ++ rest)) (sym cut ∙ same)) in
     rw c.from_residual-in_err-end.ensures none
 
 pub returns : goal.returns

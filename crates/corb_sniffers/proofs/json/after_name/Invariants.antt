@@ -1,9 +1,9 @@
 use Rattle.std.proofs.Common.{◌≡◌, length}
-use Rattle.corb_sniffers.specs.JsonReading.{behind_name}
+use Rattle.corb_sniffers.specs.JsonReading.{rest_after_name}
 use Rattle.corb_sniffers.proofs.json.after_name.Given as goal
 
 abbrev pub invariant-units : goal.invariant-units
-invariant-units l = behind_name l.rest ≡ behind_name l.text
+invariant-units l = rest_after_name l.rest ≡ rest_after_name l.text
 
 abbrev pub decreases-units : goal.decreases-units
 decreases-units l = length l.rest

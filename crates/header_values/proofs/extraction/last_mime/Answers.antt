@@ -9,7 +9,7 @@ loop-part-init c =
 
 pub loop-part-preserved : goal.loop-part-preserved
 loop-part-preserved c =
-    rw c.behind-run.ensures (MimesTo-more _ _ _ _ _ _ c.in-Some.ensures.steps c.in_ok-kept_mime.ensures c.loop-part.invariant)
+    rw c.after-run.ensures (MimesTo-more _ _ _ _ _ _ c.in-Some.ensures.steps c.in_ok-kept_mime.ensures c.loop-part.invariant)
 
 pub returns-in_ok-into_answer-in-Some-run : goal.returns-in_ok-into_answer-in-Some-run
 returns-in_ok-into_answer-in-Some-run c =

@@ -11,7 +11,7 @@ returns-in_err-main-clause-none c =
 pub returns-then-is_nonempty_token-2-clause-found :
     goal.returns-then-is_nonempty_token-2-clause-found
 returns-then-is_nonempty_token-2-clause-found c =
-    essence_read c.args.text.now c.trim_http_ws.result.now c.in_ok-main.main.now c.in_ok-main.behind.now
+    essence_read c.args.text.now c.trim_http_ws.result.now c.in_ok-main.main.now c.in_ok-main.after.now
     c.split_before.result.0.now c.split_before.result.1.now c.trim_http_ws_end-sub.result.now
     c.trim_http_ws.ensures c.in_ok-main.ensures.cut c.split_before.ensures c.trim_http_ws_end-sub.ensures
     (sym c.is_nonempty_token.ensures ∙ c.if-is_nonempty_token.true)
@@ -20,7 +20,7 @@ returns-then-is_nonempty_token-2-clause-found c =
 pub returns-else-is_nonempty_token-clause-none : goal.returns-else-is_nonempty_token-clause-none
 returns-else-is_nonempty_token-clause-none c =
     essence_none c.args.text.now c.in_ok-main.main.now c.trim_http_ws_end-sub.result.now
-    (λ cut is. essence_only c.args.text.now c.trim_http_ws.result.now c.in_ok-main.main.now c.in_ok-main.behind.now
+    (λ cut is. essence_only c.args.text.now c.trim_http_ws.result.now c.in_ok-main.main.now c.in_ok-main.after.now
     c.split_before.result.0.now c.split_before.result.1.now c.trim_http_ws_end-sub.result.now cut is
     c.trim_http_ws.ensures c.in_ok-main.ensures.cut c.in_ok-main.ensures.first c.split_before.ensures
     c.trim_http_ws_end-sub.ensures)

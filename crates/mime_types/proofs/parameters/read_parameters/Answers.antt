@@ -11,7 +11,7 @@ segments-init c =
 pub segments-preserved : goal.segments-preserved
 segments-preserved c =
     let segment = c.in_ok-rest.ensures in
-    let first = semicolon_first c.segments.rest.now c.in-Some.field-0-0.now c.in-Some.behind.now c.segments.invariant.0 c.in-Some.ensures.cases.0 in (
+    let first = semicolon_first c.segments.rest.now c.in-Some.field-0-0.now c.in-Some.after.now c.segments.invariant.0 c.in-Some.ensures.cases.0 in (
       segment.1.begins,
       rw segment.2 (keeps_one c.args.text.now (pairs_in c.segments.kept.items) c.segments.rest.now segment.0 c.in_ok-rest.rest.now
           c.segments.invariant.1 (rw (← first) at segment.1)),

@@ -1,6 +1,6 @@
 use Rattle.std.proofs.Common.{arith}
 use Rattle.memchr.specs.Find.{is_byte}
-use Rattle.mime_types.proofs.SpanLemmas.{front_fails, all_fail}
+use Rattle.mime_types.proofs.SpanLemmas.{prefix_fails, all_fail}
 use Rattle.mime_types.proofs.scanning.split_once.Goals as goal
 
 pub returns-in_err-place-clause-none : goal.returns-in_err-place-clause-none
@@ -10,5 +10,5 @@ returns-in_err-place-clause-none c =
 pub returns-clause-first : goal.returns-clause-first
 returns-clause-first c =
     let found = c.in_ok-place.ensures in
-    front_fails (is_byte c.args.stop) c.in_ok-place.place c.args.text.now (omega (arith, found.0.high))
+    prefix_fails (is_byte c.args.stop) c.in_ok-place.place c.args.text.now (omega (arith, found.0.high))
     (λ k below. found.0.before k (omega arith) below)
