@@ -53,9 +53,6 @@ EndsWith-append ms ns a None end_a end_b = subst (λ l. EndsWith l a) (sym (ap (
 EndsWith-append ms ns a (Some e) end_a (before, m, is, main, sub) =
     (ms ++ before, m, ap (λ l. ms ++ l) is ∙ sym (append_assoc ms before (m ∷ [])), main, sub)
 
-pub IsLastOf-none : IsLastOf [] None
-IsLastOf-none = ([], tt, refl)
-
 pub IsLastOf-append : (texts more : List (List ℕ)) (a b : Option Essence) → IsLastOf texts a → IsLastOf more b
     → IsLastOf (texts ++ more) (option_or b a)
 IsLastOf-append texts more a b (xs, are_xs, end_a) (ys, are_ys, end_b) = (
