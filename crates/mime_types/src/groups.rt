@@ -162,7 +162,8 @@ pub fn is_never_sniffed(e: &Essence) -> bool
     is_among(e, &NEVER_SNIFFED)
 }
 
-/// Whether its type is `audio`, `image` or `video`.
+/// Whether its type is `audio`, `image` or `video`: this project's group. The standard counts `application/ogg` among
+/// audio and video besides (WHATWG MIME Sniffing 4.6).
 #[tactic(auto, unfolding(crate::specs::Sets::media_mains))]
 pub fn is_media(e: &Essence) -> bool
     ensures { result ≡ is_media_type (main_of e.now) }
