@@ -1,5 +1,5 @@
 -- A body that begins.
-use Rattle.std.proofs.Common.{◌≡◌, ℕ, Bool, false, List, [], ◌++◌, Option, refl, sym, ap, subst, ◌∙◌, arith}
+use Rattle.std.proofs.Common.{◌≡◌, ℕ, Bool, false, List, [], ◌++◌, refl, sym, ap, subst, ◌∙◌, arith}
 use Rattle.std.specs.FinMap as map
 use Rattle.std.proofs.lemmas.List.{append-nil}
 use Rattle.orb_io.specs.Told.{IsPrefix}
@@ -15,8 +15,8 @@ use Rattle.http_exchange.specs.declared.unframing.Reading.TheVariants.{Counted, 
 use Rattle.http_exchange.proofs.UnframerLemmas.{front_read}
 use Rattle.orb_engine.specs.declared.settings.Settings.{Settings}
 use Rattle.orb_engine.specs.declared.engine.Engine.{Engine}
-use Rattle.orb_engine.specs.declared.engine.Asked.{Asked}
-use Rattle.orb_engine.specs.declared.engine.Incoming.{Incoming}
+use Rattle.orb_engine.specs.declared.engine.states.Asked.{Asked}
+use Rattle.orb_engine.specs.declared.engine.states.Incoming.{Incoming}
 use Rattle.orb_engine.specs.Heads.{id_of, is_chunked, is_to_end, judged_by}
 use Rattle.orb_engine.specs.Recording.{spell_items}
 use Rattle.orb_engine.specs.Outputs.{written_items, written_front}

@@ -1,5 +1,5 @@
 -- Steps through bodies.
-use Rattle.std.proofs.Common.{◌≡◌, ℕ, ◌+◌, ◌<◌, ◌≤◌, false, List, [], ◌∷◌, ◌++◌, length, take, drop, get_or, Option, refl, sym, ap, subst, ◌∙◌, arith, append_assoc, length-append, add-one, zero, suc}
+use Rattle.std.proofs.Common.{◌≡◌, ℕ, ◌+◌, ◌<◌, ◌≤◌, ◌^◌, false, List, [], ◌∷◌, ◌++◌, length, take, drop, get_or, refl, sym, ap, subst, ◌∙◌, arith, append_assoc, length-append, add-one, zero, suc}
 use Rattle.std.specs.FinMap as map
 use Rattle.std.proofs.lemmas.List.{append-nil, take-append-drop, length-take-le, take_more}
 use Rattle.std.proofs.Math.Seq.{drop-cons}
@@ -9,9 +9,9 @@ use Rattle.http_exchange.specs.declared.unframing.Unframer.{Unframer}
 use Rattle.http_exchange.specs.declared.refusals.BadKind.TheVariants.{BadChunk}
 use Rattle.orb_engine.specs.declared.settings.Settings.{Settings}
 use Rattle.orb_engine.specs.declared.engine.Engine.{Engine}
-use Rattle.orb_engine.specs.declared.engine.Incoming.{Incoming}
-use Rattle.orb_engine.specs.declared.engine.Stage.{Stage}
-use Rattle.orb_engine.specs.declared.engine.Stage.TheVariants as stage
+use Rattle.orb_engine.specs.declared.engine.states.Incoming.{Incoming}
+use Rattle.orb_engine.specs.declared.engine.states.State.{State}
+use Rattle.orb_engine.specs.declared.engine.states.State.TheVariants as state
 use Rattle.orb_engine.specs.declared.outcome.EngineOutcome.TheVariants as outcome
 use Rattle.orb_engine.specs.Heads.{Heads, exchange_of}
 use Rattle.orb_engine.specs.Recording as cut
@@ -20,14 +20,16 @@ use Rattle.orb_engine.specs.Ends as ends
 use Rattle.orb_engine.specs.Ends.{stop_of}
 use Rattle.orb_engine.specs.Outputs.{output_of, written_items, written_front}
 use Rattle.orb_engine.specs.Counts.{rules_of, rules_of_items}
-use Rattle.orb_engine.specs.Writing.{gathered_by}
-use Rattle.orb_engine.specs.Reads.{Coming, coming_written, spell_coming, open_cut, table_of, counts_of, Common, Receives, Sends, Stands, Reads, Stops, Passes}
+use Rattle.orb_engine.specs.Writing.{gathered_by, body_of}
+use Rattle.orb_engine.specs.Reads.{Coming, coming_written, spell_coming, open_cut, table_of, counts_of, Common, Receives, Sends, Stands, Reads, Stops, Passes, IsInBody, with_unframer}
 use Rattle.orb_engine.proofs.CutLemmas.{spell_items-append, spell_items-length}
 use Rattle.orb_engine.proofs.FillLemmas.{output-sending}
+use Rattle.orb_engine.proofs.StepLemmas.{front-short}
+use Rattle.orb_engine.proofs.HeadStepLemmas.{IsSameHead, common-same}
 
-sends-at : (t : Stage) (incoming : Incoming) (e : Engine) (s : Settings) (items : List Item) (tail : Tail) → t ≡ stage.Sending incoming
+sends-at : (t : State) (incoming : Incoming) (e : Engine) (s : Settings) (items : List Item) (tail : Tail) → t ≡ state.Body incoming
     → Stands t e s items tail → Sends incoming e s items tail
-sends-at t incoming e s items tail is h = subst (λ (u : Stage). Stands u e s items tail) is h
+sends-at t incoming e s items tail is h = subst (λ (u : State). Stands u e s items tail) is h
 
 -- an engine in a body
 pub record HasOpenBody (incoming : Incoming) (e : Engine) (s : Settings) (m given : List ℕ) : Type 0 where
@@ -36,14 +38,14 @@ pub record HasOpenBody (incoming : Incoming) (e : Engine) (s : Settings) (m give
   pub whole : cut.AreItems s map.empty coming.items
   pub sending : IsSending s (table_of coming.items) coming.heads coming.sent coming.body
   pub gave : given ++ gathered_by e.writer ≡ coming_written s coming
-  pub taken : e.taken ≡ length m
+  pub taken : e.progress.taken ≡ length m
   pub common : Common e s coming.items given
   pub receives : Receives incoming e s coming
 
-pub open-body : (incoming : Incoming) (e : Engine) (s : Settings) (m given : List ℕ) → Reads e s m given → e.stage ≡ stage.Sending incoming
+pub open-body : (incoming : Incoming) (e : Engine) (s : Settings) (m given : List ℕ) → Reads e s m given → e.state ≡ state.Body incoming
     → HasOpenBody incoming e s m given
 open-body incoming e s m given r is =
-    let a = sends-at e.stage incoming e s r.items r.tail is r.stands in
+    let a = sends-at e.state incoming e s r.items r.tail is r.stands in
     record {
       coming = record { items = r.items; heads = a.heads; sent = a.sent; body = a.body };
       spells = r.cut.spells ∙ ap (λ t. spell_items r.items (spell_tail t [])) a.is ∙ ap (λ x. spell_items r.items (spell_heads a.heads x)) (append-nil a.sent);
@@ -55,14 +57,6 @@ open-body incoming e s m given r is =
       receives = a.receives;
     }
 
--- all but the stage and the count of bytes is as it was
-pub record IsSameBody (e e' : Engine) : Type 0 where
-  pub media : e'.media ≡ e.media
-  pub place : e'.place ≡ e.place
-  pub counts : e'.counts ≡ e.counts
-  pub told : e'.told ≡ e.told
-  pub writer : e'.writer ≡ e.writer
-
 spell-more : (items : List Item) (h : Heads) (sent x : List ℕ)
     → spell_items items (spell_heads h sent) ++ x ≡ spell_items items (spell_heads h (sent ++ x))
 spell-more items h sent x =
@@ -70,14 +64,19 @@ spell-more items h sent x =
     ∙ ap (spell_items items) (append_assoc h.request.bytes (h.response.bytes ++ sent) x
     ∙ ap (λ t. h.request.bytes ++ t) (append_assoc h.response.bytes sent x))
 
+pub in-body : (t : State) → IsInBody t → (i : Incoming) × (t ≡ state.Body i)
+in-body state.Idle h = absurd h
+in-body state.RequestHead h = absurd h
+in-body (state.ResponseHead asked) h = absurd h
+in-body (state.Body i) h = (i, refl)
+
 -- the unframer took the first bytes of a piece
-pub body-got : (incoming incoming' : Incoming) (e e' : Engine) (s : Settings) (m given piece body : List ℕ) (used : ℕ)
-    (h : HasOpenBody incoming e s m given) → IsSameBody e e'
-    → Gets incoming'.unframer h.coming.heads.response.frame h.coming.sent h.coming.body piece body used
-    → incoming'.to_end ≡ incoming.to_end → incoming'.id ≡ incoming.id → incoming'.place ≡ incoming.place
-    → e'.taken ≡ e.taken + used
-    → Passes incoming' e' s (m ++ take used piece) body given
-body-got incoming incoming' e e' s m given piece body used h same gets to_end id place taken =
+pub body-got : (incoming : Incoming) (u : Unframer) (e e' : Engine) (s : Settings) (m given piece body : List ℕ) (used : ℕ)
+    (h : HasOpenBody incoming e s m given) → IsSameHead e e'
+    → Gets u h.coming.heads.response.frame h.coming.sent h.coming.body piece body used
+    → e'.progress.taken ≡ e.progress.taken + used
+    → Passes (with_unframer incoming u) e' s (m ++ take used piece) body given
+body-got incoming u e e' s m given piece body used h same gets taken =
     let c = h.coming in
     record {
       coming = record { items = c.items; heads = c.heads; sent = c.sent ++ take used piece; body = c.body };
@@ -87,19 +86,28 @@ body-got incoming incoming' e e' s m given piece body used h same gets to_end id
       front = gets.front;
       gave = ap (λ w. given ++ gathered_by w) same.writer ∙ h.gave;
       taken = omega (arith, taken, h.taken, length-append m (take used piece), length-take-le used piece gets.within);
-      common = record {
-        settings = ap (λ w. w.settings) same.writer ∙ h.common.settings;
-        place = same.place ∙ h.common.place;
-        counts = same.counts ∙ h.common.counts;
-        told = rw same.told h.common.told;
-      };
+      common = common-same e e' s c.items given same h.common;
       unframer = gets.reads;
       writer = rw same.writer h.receives.writer;
       media = same.media ∙ h.receives.media;
-      id = id ∙ h.receives.id;
-      to_end = to_end ∙ h.receives.to_end;
-      place = place ∙ h.receives.place;
+      id = h.receives.id;
+      to_end = h.receives.to_end;
+      place = h.receives.place;
     }
+
+-- its content fits
+pub body-few : (incoming : Incoming) (u : Unframer) (e : Engine) (s : Settings) (m given piece body : List ℕ) (used : ℕ)
+    (h : HasOpenBody incoming e s m given)
+    → Gets u h.coming.heads.response.frame h.coming.sent h.coming.body piece body used
+    → e.progress.taken + length piece ≤ 2 ^ 62 → body_of e.writer + length body ≤ 2 ^ 62
+body-few incoming u e s m given piece body used h gets few =
+    let c = h.coming in
+    let short = front-short c.heads.response.frame (c.sent ++ take used piece) (c.body ++ body) gets.front in
+    let size : length m ≡ length (spell_items c.items []) + length (spell_heads c.heads c.sent) =
+    ap length h.spells ∙ spell_items-length c.items (spell_heads c.heads c.sent) in
+    let heads : length (spell_heads c.heads c.sent) ≡ length c.heads.request.bytes + (length c.heads.response.bytes + length c.sent) =
+    simp length-append in
+    omega (arith, h.taken, h.receives.writer.body, length-append c.body body, length-append c.sent (take used piece), length-take-le used piece gets.within, gets.within)
 
 split-at : (piece : List ℕ) (at : ℕ) → at < length piece
     → (take at piece ++ (get_or piece at 0 ∷ drop (at + 1) piece) ≡ piece)
@@ -122,9 +130,9 @@ rules-bad s items h sent body b more = append-nil _
 
 -- the unframer refused a byte of the piece
 pub body-bad : (incoming : Incoming) (u : Unframer) (e e' : Engine) (s : Settings) (m given piece : List ℕ) (at : ℕ)
-    (h : HasOpenBody incoming e s m given) → IsSameBody e e'
+    (h : HasOpenBody incoming e s m given) → IsSameHead e e'
     → Refuses u h.coming.heads.response.frame h.coming.sent h.coming.body piece at
-    → Stops (outcome.Bad BadChunk (e.taken + at)) e' s (m ++ piece) false given
+    → Stops (outcome.Bad BadChunk (e.progress.taken + at)) e' s (m ++ piece) false given
 unfolding stop_of
 body-bad incoming u e e' s m given piece at h same refuses =
     let c = h.coming in

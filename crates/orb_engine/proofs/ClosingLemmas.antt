@@ -1,5 +1,5 @@
 -- The end of an exchange.
-use Rattle.std.proofs.Common.{◌≡◌, ◌⊎◌, ℕ, cond, ◌+◌, Bool, true, false, List, [], ◌++◌, length, Option, None, Some, Result, Ok, Err, refl, sym, ap, subst, ◌∙◌, inl, inr, arith, append_assoc}
+use Rattle.std.proofs.Common.{◌≡◌, ℕ, cond, ◌+◌, Bool, true, false, List, [], ◌++◌, length, Option, None, Some, Result, Ok, Err, refl, ap, subst, ◌∙◌, arith}
 use Rattle.std.specs.Prelude.{is_some}
 use Rattle.std.specs.FinMap as map
 use Rattle.orb_io.specs.Told.{IsPrefix}
@@ -10,7 +10,7 @@ use Rattle.media_state.specs.declared.states.MediaState.{MediaState}
 use Rattle.media_state.specs.declared.states.MediaState.TheVariants.{Initial}
 use Rattle.response_rules.specs.declared.rules.Rule.{Rule}
 use Rattle.orb_engine.specs.declared.settings.Settings.{Settings}
-use Rattle.orb_engine.specs.declared.counts.Counts.{Counts}
+use Rattle.orb_engine.specs.declared.progress.Counts.{Counts}
 use Rattle.std.proofs.lemmas.List.{append-nil}
 use Rattle.body_filter.specs.Exchanges.{Exchange}
 use Rattle.orb_engine.specs.declared.settings.Job.{Job}

@@ -7,12 +7,13 @@ use Rattle.media_state.specs.Table.{States}
 use Rattle.response_rules.specs.declared.rules.Rule.{Rule}
 use Rattle.response_rules.specs.Rules.{is_allowing}
 use Rattle.orb_engine.specs.declared.settings.Settings.{Settings}
-use Rattle.orb_engine.specs.declared.counts.Counts.{Counts}
+use Rattle.orb_engine.specs.declared.progress.Counts.{Counts}
 use Rattle.orb_engine.specs.Heads.{exchange_of}
 use Rattle.orb_engine.specs.Recording.{Item, IsItem, AreItems, spell_item, spell_items, table_after, table_behind}
 use Rattle.orb_engine.specs.Outputs.{written_items, written_whole}
 use Rattle.orb_engine.specs.Counts.{rules_of_items, count_allowed, count_blocked}
-use Rattle.orb_engine.specs.Reads.{counts_of, count_with}
+use Rattle.orb_engine.specs.Progress.{count_with}
+use Rattle.orb_engine.specs.Reads.{counts_of}
 use Rattle.http_exchange.proofs.EndLemmas.{head_length-bounds}
 
 pair : (a b c d : ℕ) → a ≡ c → b ≡ d → ◌≡◌ {A = Counts} (record { allowed = a; blocked = b }) (record { allowed = c; blocked = d })

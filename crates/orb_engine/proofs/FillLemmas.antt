@@ -1,5 +1,5 @@
 -- What becomes of a body that has come.
-use Rattle.std.proofs.Common.{◌≡◌, ℕ, ◌+◌, ◌^◌, ◌<◌, ◌≤◌, Bool, false, List, [], ◌∷◌, ◌++◌, length, Option, None, Some, Result, Ok, Err, refl, sym, ap, subst, ◌∙◌, inr, arith, lit<, append_assoc, length-append}
+use Rattle.std.proofs.Common.{◌≡◌, ℕ, ◌+◌, ◌^◌, ◌<◌, ◌≤◌, Bool, false, List, [], ◌∷◌, ◌++◌, length, Some, Result, Ok, Err, refl, sym, ap, subst, ◌∙◌, inr, arith, lit<, append_assoc, length-append}
 use Rattle.std.specs.FinMap as map
 use Rattle.std.proofs.lemmas.List.{append-nil}
 use Rattle.orb_io.specs.Told.{IsPrefix}
@@ -10,11 +10,11 @@ use Rattle.http_exchange.specs.Head.{head_length}
 use Rattle.http_exchange.specs.Frames.{IsWhole}
 use Rattle.http_exchange.proofs.EndLemmas.{head_length-bounds}
 use Rattle.orb_engine.specs.declared.settings.Settings.{Settings}
-use Rattle.orb_engine.specs.declared.counts.Counts.{Counts}
+use Rattle.orb_engine.specs.declared.progress.Counts.{Counts}
 use Rattle.orb_engine.specs.declared.engine.Engine.{Engine}
-use Rattle.orb_engine.specs.declared.engine.Incoming.{Incoming}
-use Rattle.orb_engine.specs.declared.engine.Stage.{Stage}
-use Rattle.orb_engine.specs.declared.engine.Stage.TheVariants as stage
+use Rattle.orb_engine.specs.declared.engine.states.Incoming.{Incoming}
+use Rattle.orb_engine.specs.declared.engine.states.State.{State}
+use Rattle.orb_engine.specs.declared.engine.states.State.TheVariants as state
 use Rattle.orb_engine.specs.declared.outcome.EngineOutcome.{EngineOutcome}
 use Rattle.orb_engine.specs.declared.outcome.EngineOutcome.TheVariants as outcome
 use Rattle.http_exchange.specs.HeadTexts.{head_limit, IsOpenHead}
@@ -24,19 +24,18 @@ use Rattle.orb_engine.specs.Recording.{Item, Recording, AreItems, IsTail, IsReco
 use Rattle.orb_engine.specs.Ends.{NotBuilt, stop_of}
 use Rattle.orb_engine.specs.Outputs.{output_of, written_items, written_front, written_whole}
 use Rattle.orb_engine.specs.Counts.{rules_of, rules_of_items}
-use Rattle.orb_engine.specs.Writing.{gathered_by}
 use Rattle.orb_engine.specs.Reads.{Coming, coming_response, open_cut, table_of, counts_of, IsTold, Stands, Reads, Fills, FillsAt, Stops, Settles}
 use Rattle.orb_engine.specs.Closing.{Closes, Undecided, coming_rule, closed_written}
 use Rattle.orb_engine.proofs.CutLemmas.{spell_items-length, spell_items-snoc, table-snoc, items-snoc, written-snoc, rules-snoc, count-sum, rules-length, items-few}
 use Rattle.orb_engine.proofs.OutputLaws.{written_front-undecided}
 
-pub at-filled : (t : Stage) (incoming : Incoming) (e : Engine) (s : Settings) (m given : List ℕ) → t ≡ stage.Sending incoming
+pub at-filled : (t : State) (incoming : Incoming) (e : Engine) (s : Settings) (m given : List ℕ) → t ≡ state.Body incoming
     → FillsAt t e s m given → Fills incoming e s m given
-at-filled t incoming e s m given is h = subst (λ (u : Stage). FillsAt u e s m given) is h
+at-filled t incoming e s m given is h = subst (λ (u : State). FillsAt u e s m given) is h
 
-pub stands-as : (t t' : Stage) (e : Engine) (s : Settings) (items : List Item) (tail : cut.Tail) → t ≡ t'
+pub stands-as : (t t' : State) (e : Engine) (s : Settings) (items : List Item) (tail : cut.Tail) → t ≡ t'
     → Stands t' e s items tail → Stands t e s items tail
-stands-as t t' e s items tail is h = subst (λ (u : Stage). Stands u e s items tail) (sym is) h
+stands-as t t' e s items tail is h = subst (λ (u : State). Stands u e s items tail) (sym is) h
 
 -- what is written where no tail adds to it
 pub output-asking : (s : Settings) (items : List Item) (head more : List ℕ) (ended : Bool)
@@ -66,7 +65,7 @@ empty-open = record { open_ = refl; fits = lit< tt }
 
 -- fewer exchanges than bytes
 pub few-exchanges : (incoming : Incoming) (e : Engine) (s : Settings) (m given : List ℕ) → Fills incoming e s m given
-    → e.taken ≤ 2 ^ 62 → e.counts.allowed + e.counts.blocked < 2 ^ 62
+    → e.progress.taken ≤ 2 ^ 62 → e.progress.counts.allowed + e.progress.counts.blocked < 2 ^ 62
 few-exchanges incoming e s m given f fits =
     let c = f.coming in
     let few = items-few s map.empty c.items [] f.whole in
@@ -75,7 +74,7 @@ few-exchanges incoming e s m given f fits =
     ap length f.spells ∙ spell_items-length c.items (spell_heads c.heads c.sent) in
     let heads : length (spell_heads c.heads c.sent) ≡ length c.heads.request.bytes + (length c.heads.response.bytes + length c.sent) =
     simp length-append in
-    let counts : e.counts.allowed + e.counts.blocked ≡ length c.items =
+    let counts : e.progress.counts.allowed + e.progress.counts.blocked ≡ length c.items =
     rw f.common.counts (count-sum (rules_of_items c.items) ∙ rules-length c.items) in
     omega (arith, f.taken)
 
@@ -106,7 +105,7 @@ undecided-stops incoming e e' s m given given' f u tail =
 
 -- the body may go on
 pub goes-on : (incoming : Incoming) (e : Engine) (s : Settings) (m given : List ℕ) (f : Fills incoming e s m given)
-    → e.stage ≡ stage.Sending incoming → (IsWhole f.coming.heads.response.frame f.coming.sent → ⊥)
+    → e.state ≡ state.Body incoming → (IsWhole f.coming.heads.response.frame f.coming.sent → ⊥)
     → is_in_text (judged_by s (table_of f.coming.items) f.coming.heads) f.coming.body ≡ false → Reads e s m given
 goes-on incoming e s m given f is unfinished undecided =
     let c = f.coming in
@@ -123,7 +122,7 @@ goes-on incoming e s m given f is unfinished undecided =
       gave = f.gave ∙ sym (output-sending s c.items c.heads c.sent c.body []);
       taken = f.taken;
       common = f.common;
-      stands = stands-as e.stage (stage.Sending incoming) e s c.items _ is (record {
+      stands = stands-as e.state (state.Body incoming) e s c.items _ is (record {
         heads = c.heads;
         sent = c.sent;
         body = c.body;
@@ -168,7 +167,7 @@ told-snoc n s items i wrote told = record {
 -- what the answer of closing says of the recording
 pub settled : (r : Result (Unit {0}) EngineOutcome) (incoming : Incoming) (e e' : Engine) (s : Settings) (m given given' : List ℕ)
     (f : Fills incoming e s m given) → IsWhole f.coming.heads.response.frame f.coming.sent
-    → Closes r incoming.place e' s f.coming given' → e'.taken ≡ e.taken → Settles r e' s m given'
+    → Closes r incoming.place e' s f.coming given' → e'.progress.taken ≡ e.progress.taken → Settles r e' s m given'
 settled (Ok done) incoming e e' s m given given' f whole closed taken =
     let c = f.coming in
     let i = item_of c closed.rule in
@@ -184,9 +183,9 @@ settled (Ok done) incoming e e' s m given given' f whole closed taken =
         settings = closed.settings;
         place = closed.place ∙ taken ∙ f.taken ∙ ap length recording.spells;
         counts = closed.counts ∙ ap counts_of (sym (rules-snoc c.items i));
-        told = told-snoc e'.told s c.items i _ closed.told;
+        told = told-snoc e'.progress.told s c.items i _ closed.told;
       };
-      stands = stands-as e'.stage stage.Asking e' s (c.items ++ (i ∷ [])) _ closed.asking (record {
+      stands = stands-as e'.state state.RequestHead e' s (c.items ++ (i ∷ [])) _ closed.asking (record {
         head = [];
         is = refl;
         text = closed.head;
@@ -210,7 +209,7 @@ settled (Err outcome.WriteFault) incoming e e' s m given given' f whole falls ta
       recording = open_cut (f.coming.items ++ (i ∷ [])) (cut.Asking []);
       cut = closed-cut incoming e s m given f falls.rule whole falls.decided;
       within = subst (λ (t : List ℕ). IsPrefix given' t) (closed-output s f.coming falls.rule) falls.within;
-      told = told-snoc e'.told s f.coming.items i _ falls.told;
+      told = told-snoc e'.progress.told s f.coming.items i _ falls.told;
     }
 settled (Err outcome.Done) incoming e e' s m given given' f whole never taken = absurd never
 settled (Err (outcome.Bad kind at)) incoming e e' s m given given' f whole never taken = absurd never

@@ -1,5 +1,5 @@
 -- How a recording ends where no more comes.
-use Rattle.std.proofs.Common.{◌≡◌, ℕ, ◌+◌, ◌^◌, ◌<◌, ◌≤◌, true, false, List, [], ◌∷◌, ◌++◌, length, Option, None, Result, Ok, Err, refl, sym, ap, subst, ◌∙◌, arith}
+use Rattle.std.proofs.Common.{◌≡◌, ℕ, ◌+◌, ◌^◌, ◌<◌, ◌≤◌, true, false, List, [], ◌∷◌, ◌++◌, length, None, Result, Ok, Err, refl, sym, ap, ◌∙◌}
 use Rattle.std.specs.FinMap as map
 use Rattle.std.proofs.lemmas.List.{append-nil}
 use Rattle.response_rules.specs.Tables.{window_rule_of}
@@ -8,8 +8,8 @@ use Rattle.orb_engine.specs.declared.settings.Settings.{Settings}
 use Rattle.orb_engine.specs.declared.settings.Job.{Job}
 use Rattle.orb_engine.specs.declared.settings.Job.TheVariants as job
 use Rattle.orb_engine.specs.declared.engine.Engine.{Engine}
-use Rattle.orb_engine.specs.declared.engine.Asked.{Asked}
-use Rattle.orb_engine.specs.declared.engine.Incoming.{Incoming}
+use Rattle.orb_engine.specs.declared.engine.states.Asked.{Asked}
+use Rattle.orb_engine.specs.declared.engine.states.Incoming.{Incoming}
 use Rattle.orb_engine.specs.declared.outcome.EngineOutcome.{EngineOutcome}
 use Rattle.orb_engine.specs.declared.outcome.EngineOutcome.TheVariants as outcome
 use Rattle.orb_engine.specs.Heads.{Heads, is_to_end, judged_by}
@@ -51,22 +51,22 @@ asking-done e s m given h empty =
 
 -- in a request head
 pub asking-cut : (e : Engine) (s : Settings) (m given : List ℕ) → HasRequest IsOpenHead e s m given → (e.head ≡ [] → ⊥)
-    → Stops (outcome.Cut e.place) e s m true given
+    → Stops (outcome.Cut e.progress.place) e s m true given
 unfolding stop_of
 asking-cut e s m given h some = by h.head refl
   where
-    by : (head : List ℕ) → h.head ≡ head → Stops (outcome.Cut e.place) e s m true given
+    by : (head : List ℕ) → h.head ≡ head → Stops (outcome.Cut e.progress.place) e s m true given
     by [] is = absurd (some (h.buffer ∙ is))
     by (b ∷ head) is =
-        quiet-stops (outcome.Cut e.place) e s m given true h.items (cut.Asking (b ∷ head)) [] (request-cut e s m given (b ∷ head) h is) refl refl
+        quiet-stops (outcome.Cut e.progress.place) e s m given true h.items (cut.Asking (b ∷ head)) [] (request-cut e s m given (b ∷ head) h is) refl refl
         (ap (λ p. ends.Cut p) (sym h.common.place)) h.gave h.common.counts h.common.told
 
 -- in a response head
 pub answering-cut : (asked : Asked) (e : Engine) (s : Settings) (m given : List ℕ) → HasResponse IsOpenHead asked e s m given
-    → Stops (outcome.Cut e.place) e s m true given
+    → Stops (outcome.Cut e.progress.place) e s m true given
 unfolding stop_of
 answering-cut asked e s m given h =
-    quiet-stops (outcome.Cut e.place) e s m given true h.items (cut.Answering h.request h.head) [] (record {
+    quiet-stops (outcome.Cut e.progress.place) e s m given true h.items (cut.Answering h.request h.head) [] (record {
       spells = h.spells ∙ ap (λ x. spell_items h.items (h.request.bytes ++ x)) (sym (append-nil h.head));
       items = h.whole;
       tail = (h.good, h.text);
@@ -95,7 +95,7 @@ rules-unended s items h sent body is none = rw (is, none) (append-nil _)
 
 -- in a body that has an end of its own
 pub sending-cut : (incoming : Incoming) (e : Engine) (s : Settings) (m given : List ℕ) → HasOpenBody incoming e s m given
-    → incoming.to_end ≡ false → Stops (outcome.Cut e.place) e s m true given
+    → incoming.to_end ≡ false → Stops (outcome.Cut e.progress.place) e s m true given
 unfolding stop_of output_of rules_of
 sending-cut incoming e s m given h framed =
     let c = h.coming in
@@ -121,7 +121,7 @@ closing incoming e s m given h = record {
 }
 
 pub closing-few : (incoming : Incoming) (e : Engine) (s : Settings) (m given : List ℕ) → HasOpenBody incoming e s m given
-    → e.taken ≤ 2 ^ 62 → e.counts.allowed + e.counts.blocked < 2 ^ 62
+    → e.progress.taken ≤ 2 ^ 62 → e.progress.counts.allowed + e.progress.counts.blocked < 2 ^ 62
 closing-few incoming e s m given h fits =
     few-exchanges incoming e s m given (record {
       coming = h.coming;

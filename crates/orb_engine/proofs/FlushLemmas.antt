@@ -1,5 +1,5 @@
 -- What goes out behind a piece.
-use Rattle.std.proofs.Common.{◌≡◌, ℕ, ◌^◌, ◌≤◌, Bool, true, false, List, [], ◌∷◌, ◌++◌, refl, sym, ap, subst, ◌∙◌}
+use Rattle.std.proofs.Common.{◌≡◌, ℕ, ◌^◌, ◌≤◌, Bool, true, false, List, [], ◌++◌, refl, sym, ap, subst, ◌∙◌}
 use Rattle.std.specs.FinMap as map
 use Rattle.std.proofs.lemmas.List.{append-nil}
 use Rattle.orb_io.specs.Told.{IsPrefix}
@@ -7,10 +7,12 @@ use Rattle.orb_io.proofs.ToldLemmas.{IsPrefix-trans, IsPrefix-append}
 use Rattle.orb_engine.specs.declared.settings.Settings.{Settings}
 use Rattle.orb_engine.specs.declared.worker.Worker.{Worker}
 use Rattle.orb_engine.specs.declared.writer.Writer.{Writer}
-use Rattle.orb_engine.specs.declared.counts.Counts.{Counts}
+use Rattle.orb_engine.specs.declared.progress.Counts.{Counts}
+use Rattle.orb_engine.specs.declared.progress.Progress.{Progress}
+use Rattle.orb_engine.specs.Progress.{committed}
 use Rattle.orb_engine.specs.declared.engine.Engine.{Engine}
-use Rattle.orb_engine.specs.declared.engine.Stage.{Stage}
-use Rattle.orb_engine.specs.declared.engine.Stage.TheVariants as stage
+use Rattle.orb_engine.specs.declared.engine.states.State.{State}
+use Rattle.orb_engine.specs.declared.engine.states.State.TheVariants as state
 use Rattle.orb_engine.specs.declared.outcome.EngineOutcome.{EngineOutcome}
 use Rattle.orb_engine.specs.declared.outcome.EngineOutcome.TheVariants as outcome
 use Rattle.orb_io.specs.Outboxes.{OutboxState, empty_outbox}
@@ -27,10 +29,10 @@ use Rattle.orb_engine.specs.Runs.{HasCounted, HasCountedFront, HasRead, Ends, Fa
 use Rattle.orb_engine.proofs.AnswerLaws.{opens-stop}
 
 -- the counts of whole exchanges, by verdict
-counted : (e : Engine) (s : Settings) (r : Recording) (ended : Bool) → e.counts ≡ counts_of (rules_of s r ended) → HasCounted e s r ended
+counted : (e : Engine) (s : Settings) (r : Recording) (ended : Bool) → e.progress.counts ≡ counts_of (rules_of s r ended) → HasCounted e s r ended
 counted e s r ended is = record { allowed = ap (λ (c : Counts). c.allowed) is; blocked = ap (λ (c : Counts). c.blocked) is }
 
-counted-front : (e : Engine) (s : Settings) (items : List Item) (wrote more : List ℕ) → IsTold e.counts s items wrote
+counted-front : (e : Engine) (s : Settings) (items : List Item) (wrote more : List ℕ) → IsTold e.progress.counts s items wrote
     → HasCountedFront e s items (wrote ++ more)
 counted-front e s items wrote more told = record {
   front = told.front;
@@ -43,7 +45,7 @@ counted-front e s items wrote more told = record {
 
 -- a stop, all of whose output went out
 pub stops-flushed : (o : EngineOutcome) (e e' : Engine) (s : Settings) (m given : List ℕ) (ended : Bool) (all : List ℕ)
-    → Stops o e s m ended given → e'.counts ≡ e.counts → all ≡ given ++ gathered_by e.writer
+    → Stops o e s m ended given → e'.progress.counts ≡ e.progress.counts → all ≡ given ++ gathered_by e.writer
     → Ends e' s m ended (IsStop o) all
 stops-flushed o e e' s m given ended all stops counts gave = record {
   recording = stops.recording;
@@ -55,7 +57,7 @@ stops-flushed o e e' s m given ended all stops counts gave = record {
 
 -- a stop, whose output didn't go out whole
 pub stops-broken : (o : EngineOutcome) (e e' : Engine) (s : Settings) (m given : List ℕ) (ended : Bool) (more : List ℕ)
-    → Stops o e s m ended given → e'.counts ≡ e.told → IsPrefix (given ++ more) (given ++ gathered_by e.writer)
+    → Stops o e s m ended given → e'.progress.counts ≡ e.progress.told → IsPrefix (given ++ more) (given ++ gathered_by e.writer)
     → Fails e' s m ended (given ++ more)
 stops-broken o e e' s m given ended more stops counts within = record {
   seen = m;
@@ -70,7 +72,7 @@ stops-broken o e e' s m given ended more stops counts within = record {
 
 -- a fault before, after which nothing is pushed
 pub breaks-fail : (e e' : Engine) (s : Settings) (m : List ℕ) (ended : Bool) (given : List ℕ) → Breaks e s m ended given
-    → e'.counts ≡ e.told → Fails e' s m ended given
+    → e'.progress.counts ≡ e.progress.told → Fails e' s m ended given
 breaks-fail e e' s m ended given broken counts = record {
   seen = broken.seen;
   unseen = broken.unseen;
@@ -137,18 +139,18 @@ works-same w w' s same empty for = record {
 }
 
 -- a flush changes nothing of where the engine stands
-pub stands-flushed : (t : Stage) (e e' : Engine) (s : Settings) (items : List Item) (tail : Tail) → Stands t e s items tail
+pub stands-flushed : (t : State) (e e' : Engine) (s : Settings) (items : List Item) (tail : Tail) → Stands t e s items tail
     → e'.head ≡ e.head → e'.media ≡ e.media → IsSameBut e.writer e'.writer → box_of e'.writer ≡ empty_outbox
     → Stands t e' s items tail
-stands-flushed stage.Idle e e' s items tail h head media same empty = absurd h
-stands-flushed stage.Asking e e' s items tail h head media same empty = record {
+stands-flushed state.Idle e e' s items tail h head media same empty = absurd h
+stands-flushed state.RequestHead e e' s items tail h head media same empty = record {
   head = h.head;
   is = h.is;
   text = head ∙ h.text;
   media = media ∙ h.media;
   writer = works-same e.writer e'.writer s same empty h.writer;
 }
-stands-flushed (stage.Answering asked) e e' s items tail h head media same empty = record {
+stands-flushed (state.ResponseHead asked) e e' s items tail h head media same empty = record {
   request = h.request;
   head = h.head;
   is = h.is;
@@ -159,7 +161,7 @@ stands-flushed (stage.Answering asked) e e' s items tail h head media same empty
   state = h.state;
   place = h.place;
 }
-stands-flushed (stage.Sending incoming) e e' s items tail h head media same empty = record {
+stands-flushed (state.Body incoming) e e' s items tail h head media same empty = record {
   heads = h.heads;
   sent = h.sent;
   body = h.body;
@@ -180,14 +182,15 @@ stands-flushed (stage.Sending incoming) e e' s items tail h head media same empt
 }
 
 -- an open recording, all of whose output went out
-pub reads-flushed : (e e' : Engine) (s : Settings) (m given all : List ℕ) → Reads e s m given → e.taken ≤ 2 ^ 62
-    → e'.head ≡ e.head → e'.media ≡ e.media → IsSameBut e.writer e'.writer → e'.stage ≡ e.stage → e'.place ≡ e.place
-    → e'.taken ≡ e.taken → e'.counts ≡ e.counts → e'.told ≡ e.counts
+pub reads-flushed : (e e' : Engine) (s : Settings) (m given all : List ℕ) → Reads e s m given → e.progress.taken ≤ 2 ^ 62
+    → e'.head ≡ e.head → e'.media ≡ e.media → IsSameBut e.writer e'.writer → e'.state ≡ e.state → e'.progress ≡ committed e.progress
     → all ≡ given ++ gathered_by e.writer → box_of e'.writer ≡ empty_outbox
     → Ends e' s m false (λ stop. stop ≡ Open) all × HasRead e' s m all
-reads-flushed e e' s m given all r few head media same stage_ place taken counts told gave empty =
+reads-flushed e e' s m given all r few head media same state_ progress gave empty =
     let recording = open_cut r.items r.tail in
-    let out : all ≡ output_of s recording false = gave ∙ r.gave in (
+    let out : all ≡ output_of s recording false = gave ∙ r.gave in
+    let counts = ap (λ (p : Progress). p.counts) progress in
+    let taken = ap (λ (p : Progress). p.taken) progress in (
       record {
         recording = recording;
         cut = r.cut;
@@ -205,25 +208,25 @@ reads-flushed e e' s m given all r few head media same stage_ place taken counts
           taken = taken ∙ r.taken;
           common = record {
             settings = same.settings ∙ r.common.settings;
-            place = place ∙ r.common.place;
+            place = ap (λ (p : Progress). p.place) progress ∙ r.common.place;
             counts = counts ∙ r.common.counts;
             told = record {
               front = r.items;
               others = [];
               are = sym (append-nil r.items);
-              numbers = told ∙ r.common.counts;
+              numbers = ap (λ (p : Progress). p.told) progress ∙ r.common.counts;
               whole = subst (λ (t : List ℕ). IsPrefix (written_items s map.empty 0 r.items) t) (sym out) (items-front s r.items r.tail);
             };
           };
-          stands = subst (λ (t : Stage). Stands t e' s r.items r.tail) (sym stage_)
-              (stands-flushed e.stage e e' s r.items r.tail r.stands head media same empty);
+          stands = subst (λ (t : State). Stands t e' s r.items r.tail) (sym state_)
+              (stands-flushed e.state e e' s r.items r.tail r.stands head media same empty);
         };
         flushed = empty;
         few = rw taken few;
       },
     )
 
-pub reads-broken : (e e' : Engine) (s : Settings) (m given more : List ℕ) → Reads e s m given → e'.counts ≡ e.told
+pub reads-broken : (e e' : Engine) (s : Settings) (m given more : List ℕ) → Reads e s m given → e'.progress.counts ≡ e.progress.told
     → IsPrefix (given ++ more) (given ++ gathered_by e.writer) → Fails e' s m false (given ++ more)
 reads-broken e e' s m given more r counts within = record {
   seen = m;

@@ -18,9 +18,11 @@ use Rattle.http_exchange.specs.declared.refusals.BadKind.{BadKind}
 use Rattle.http_exchange.specs.declared.request.RequestHead.{RequestHead}
 use Rattle.orb_engine.specs.declared.settings.Settings.{Settings}
 use Rattle.orb_engine.specs.declared.engine.Engine.{Engine}
-use Rattle.orb_engine.specs.declared.engine.Asked.{Asked}
-use Rattle.orb_engine.specs.declared.engine.Stage.{Stage}
-use Rattle.orb_engine.specs.declared.engine.Stage.TheVariants as stage
+use Rattle.orb_engine.specs.declared.engine.states.Asked.{Asked}
+use Rattle.orb_engine.specs.declared.engine.states.State.{State}
+use Rattle.orb_engine.specs.declared.engine.states.State.TheVariants as state
+use Rattle.orb_engine.specs.declared.progress.Progress.{Progress}
+use Rattle.orb_engine.specs.Progress.{advanced}
 use Rattle.orb_engine.specs.declared.outcome.EngineOutcome.{EngineOutcome}
 use Rattle.orb_engine.specs.declared.outcome.EngineOutcome.TheVariants as outcome
 use Rattle.http_exchange.specs.HeadTexts.{IsHeadText, IsOpenHead, IsLongHead}
@@ -33,7 +35,7 @@ use Rattle.orb_engine.specs.Ends.{End, stop_of}
 use Rattle.orb_engine.specs.Outputs.{output_of, written_items, written_tail}
 use Rattle.orb_engine.specs.Counts.{rules_of, rules_of_items, rules_of_tail}
 use Rattle.orb_engine.specs.Writing.{gathered_by}
-use Rattle.orb_engine.specs.Reads.{open_cut, table_of, counts_of, IsTold, Common, Asks, Answers, Stands, Reads, IsStop, Stops, Breaks, Halts, HasRequest, HasResponse, HasReadHeads}
+use Rattle.orb_engine.specs.Reads.{open_cut, table_of, counts_of, IsTold, Common, Asks, Answers, Stands, Reads, IsStop, Stops, Breaks, Halts, HasRequest, HasResponse, HasHead, IsInHead, head_place_of, HasReadHeads}
 use Rattle.orb_engine.proofs.CutLemmas.{spell_items-append, spell_items-length}
 use Rattle.orb_engine.proofs.FillLemmas.{empty-open, output-asking, stands-as}
 
@@ -56,7 +58,7 @@ pub quiet-stops : (o : EngineOutcome) (e : Engine) (s : Settings) (m given : Lis
     → written_tail s (table_of items) (length items) ended t ≡ [] → rules_of_tail s (table_of items) ended t ≡ []
     → IsStop o (stop_of s (record { items = items; tail = t; more = more }) ended)
     → given ++ gathered_by e.writer ≡ written_items s map.empty 0 items
-    → e.counts ≡ counts_of (rules_of_items items) → IsTold e.told s items given
+    → e.progress.counts ≡ counts_of (rules_of_items items) → IsTold e.progress.told s items given
     → Stops o e s m ended given
 quiet-stops o e s m given ended items t more cut_ quiet rules stop gave counts told = record {
   recording = record { items = items; tail = t; more = more };
@@ -67,19 +69,19 @@ quiet-stops o e s m given ended items t more cut_ quiet rules stop gave counts t
   told = told;
 }
 
-asks-at : (t : Stage) (e : Engine) (s : Settings) (items : List Item) (tail : Tail) → t ≡ stage.Asking
+asks-at : (t : State) (e : Engine) (s : Settings) (items : List Item) (tail : Tail) → t ≡ state.RequestHead
     → Stands t e s items tail → Asks e s items tail
-asks-at t e s items tail is h = subst (λ (u : Stage). Stands u e s items tail) is h
+asks-at t e s items tail is h = subst (λ (u : State). Stands u e s items tail) is h
 
-answers-at : (t : Stage) (asked : Asked) (e : Engine) (s : Settings) (items : List Item) (tail : Tail) → t ≡ stage.Answering asked
+answers-at : (t : State) (asked : Asked) (e : Engine) (s : Settings) (items : List Item) (tail : Tail) → t ≡ state.ResponseHead asked
     → Stands t e s items tail → Answers asked e s items tail
-answers-at t asked e s items tail is h = subst (λ (u : Stage). Stands u e s items tail) is h
+answers-at t asked e s items tail is h = subst (λ (u : State). Stands u e s items tail) is h
 
 -- an engine in a request head
-pub open-request : (e : Engine) (s : Settings) (m given : List ℕ) → Reads e s m given → e.stage ≡ stage.Asking
+pub open-request : (e : Engine) (s : Settings) (m given : List ℕ) → Reads e s m given → e.state ≡ state.RequestHead
     → HasRequest IsOpenHead e s m given
 open-request e s m given r is =
-    let a = asks-at e.stage e s r.items r.tail is r.stands in
+    let a = asks-at e.state e s r.items r.tail is r.stands in
     record {
       items = r.items;
       head = a.head;
@@ -94,7 +96,7 @@ open-request e s m given r is =
       common = r.common;
     }
 
-pub reads-request : (e : Engine) (s : Settings) (m given : List ℕ) → HasRequest IsOpenHead e s m given → e.stage ≡ stage.Asking
+pub reads-request : (e : Engine) (s : Settings) (m given : List ℕ) → HasRequest IsOpenHead e s m given → e.state ≡ state.RequestHead
     → Reads e s m given
 reads-request e s m given h is = record {
   items = h.items;
@@ -109,7 +111,7 @@ reads-request e s m given h is = record {
   gave = h.gave ∙ sym (output-asking s h.items h.head [] false);
   taken = h.taken;
   common = h.common;
-  stands = stands-as e.stage stage.Asking e s h.items _ is (record {
+  stands = stands-as e.state state.RequestHead e s h.items _ is (record {
     head = h.head;
     is = refl;
     text = h.buffer;
@@ -119,11 +121,11 @@ reads-request e s m given h is = record {
 }
 
 -- an engine in a response head
-pub open-response : (asked : Asked) (e : Engine) (s : Settings) (m given : List ℕ) → Reads e s m given → e.stage ≡ stage.Answering asked
+pub open-response : (asked : Asked) (e : Engine) (s : Settings) (m given : List ℕ) → Reads e s m given → e.state ≡ state.ResponseHead asked
     → HasResponse IsOpenHead asked e s m given
 unfolding output_of
 open-response asked e s m given r is =
-    let a = answers-at e.stage asked e s r.items r.tail is r.stands in
+    let a = answers-at e.state asked e s r.items r.tail is r.stands in
     let t = subst (λ (t : Tail). IsTail s (table_of r.items) t) a.is r.cut.tail in
     record {
       items = r.items;
@@ -145,7 +147,7 @@ open-response asked e s m given r is =
     }
 
 pub reads-response : (asked : Asked) (e : Engine) (s : Settings) (m given : List ℕ) → HasResponse IsOpenHead asked e s m given
-    → e.stage ≡ stage.Answering asked → Reads e s m given
+    → e.state ≡ state.ResponseHead asked → Reads e s m given
 unfolding output_of
 reads-response asked e s m given h is = record {
   items = h.items;
@@ -160,7 +162,7 @@ reads-response asked e s m given h is = record {
   gave = h.gave ∙ sym (append-nil _);
   taken = h.taken;
   common = h.common;
-  stands = stands-as e.stage (stage.Answering asked) e s h.items _ is (record {
+  stands = stands-as e.state (state.ResponseHead asked) e s h.items _ is (record {
     request = h.request;
     head = h.head;
     is = refl;
@@ -173,12 +175,12 @@ reads-response asked e s m given h is = record {
   });
 }
 
--- all but the head and the count of bytes is as it was
+-- all but what is read next, the head and the count of bytes is as it was
 pub record IsSameHead (e e' : Engine) : Type 0 where
   pub media : e'.media ≡ e.media
-  pub place : e'.place ≡ e.place
-  pub counts : e'.counts ≡ e.counts
-  pub told : e'.told ≡ e.told
+  pub place : e'.progress.place ≡ e.progress.place
+  pub counts : e'.progress.counts ≡ e.progress.counts
+  pub told : e'.progress.told ≡ e.progress.told
   pub writer : e'.writer ≡ e.writer
 
 pub common-same : (e e' : Engine) (s : Settings) (items : List Item) (given : List ℕ) → IsSameHead e e' → Common e s items given
@@ -190,12 +192,22 @@ common-same e e' s items given same c = record {
   told = rw same.told c.told;
 }
 
+-- so it is where bytes were taken
+pub took : (e e' : Engine) (n : ℕ) → e'.media ≡ e.media → e'.writer ≡ e.writer → e'.progress ≡ advanced e.progress n → IsSameHead e e'
+took e e' n media writer is = record {
+  media = media;
+  place = ap (λ (p : Progress). p.place) is;
+  counts = ap (λ (p : Progress). p.counts) is;
+  told = ap (λ (p : Progress). p.told) is;
+  writer = writer;
+}
+
 box-same : (e e' : Engine) → IsSameHead e e' → gathered_by e'.writer ≡ gathered_by e.writer
 box-same e e' same = ap gathered_by same.writer
 
 -- more of a request head
 pub request-longer : (IsText : List ℕ → Type 0) (e e' : Engine) (s : Settings) (m given prefix : List ℕ) → HasRequest IsOpenHead e s m given
-    → IsSameHead e e' → e'.head ≡ e.head ++ prefix → IsText e'.head → e'.taken ≡ e.taken + length prefix
+    → IsSameHead e e' → e'.head ≡ e.head ++ prefix → IsText e'.head → e'.progress.taken ≡ e.progress.taken + length prefix
     → HasRequest IsText e' s (m ++ prefix) given
 request-longer IsText e e' s m given prefix h same head text taken = record {
   items = h.items;
@@ -213,10 +225,10 @@ request-longer IsText e e' s m given prefix h same head text taken = record {
 
 pub request-long : (e e' : Engine) (s : Settings) (m given prefix rest : List ℕ) → HasRequest IsOpenHead e s m given
     → IsSameHead e e' → e'.head ≡ e.head ++ prefix → IsLongHead e'.head
-    → Stops (outcome.HeadLimit e.place) e' s (m ++ (prefix ++ rest)) false given
+    → Stops (outcome.HeadLimit e.progress.place) e' s (m ++ (prefix ++ rest)) false given
 unfolding stop_of
 request-long e e' s m given prefix rest h same head long =
-    quiet-stops (outcome.HeadLimit e.place) e' s (m ++ (prefix ++ rest)) given false h.items (cut.LongRequest (h.head ++ prefix)) rest
+    quiet-stops (outcome.HeadLimit e.progress.place) e' s (m ++ (prefix ++ rest)) given false h.items (cut.LongRequest (h.head ++ prefix)) rest
     (record {
       spells = ap (λ x. x ++ (prefix ++ rest)) h.spells ∙ spell_items-append h.items h.head (prefix ++ rest)
           ∙ ap (spell_items h.items) (sym (append_assoc h.head prefix rest));
@@ -228,10 +240,10 @@ request-long e e' s m given prefix rest h same head long =
 
 -- the request head is refused
 pub request-bad : (e e' : Engine) (s : Settings) (m given : List ℕ) (kind : BadKind) → HasRequest IsHeadText e s m given
-    → IsSameHead e e' → ReadsRequestHead e.head (Err kind) → Stops (outcome.Bad kind e.place) e' s m false given
+    → IsSameHead e e' → ReadsRequestHead e.head (Err kind) → Stops (outcome.Bad kind e.progress.place) e' s m false given
 unfolding stop_of
 request-bad e e' s m given kind h same reads =
-    quiet-stops (outcome.Bad kind e.place) e' s m given false h.items (cut.BadRequest h.head kind) []
+    quiet-stops (outcome.Bad kind e.progress.place) e' s m given false h.items (cut.BadRequest h.head kind) []
     (record {
       spells = h.spells ∙ ap (spell_items h.items) (sym (append-nil h.head));
       items = h.whole;
@@ -242,13 +254,13 @@ request-bad e e' s m given kind h same reads =
 
 -- the table of media states is full
 pub request-full : (e e' : Engine) (s : Settings) (m given : List ℕ) (asks : RequestHead) → HasRequest IsHeadText e s m given
-    → e'.writer ≡ e.writer → e'.counts ≡ e.counts → e'.told ≡ e.told
+    → e'.writer ≡ e.writer → e'.progress.counts ≡ e.progress.counts → e'.progress.told ≡ e.progress.told
     → ReadsRequestHead e.head (Ok asks) → IsRefusedId e.media (id_of asks)
-    → Stops (outcome.MediaFull e.place) e' s m false given
+    → Stops (outcome.MediaFull e.progress.place) e' s m false given
 unfolding stop_of
 request-full e e' s m given asks h writer counts told reads refused =
     let r : Request = record { bytes = h.head; asks = asks } in
-    quiet-stops (outcome.MediaFull e.place) e' s m given false h.items (cut.FullTable r) []
+    quiet-stops (outcome.MediaFull e.progress.place) e' s m given false h.items (cut.FullTable r) []
     (record {
       spells = h.spells ∙ ap (spell_items h.items) (sym (append-nil h.head));
       items = h.whole;
@@ -259,9 +271,9 @@ request-full e e' s m given asks h writer counts told reads refused =
 
 -- the request is good, and its response comes
 pub request-good : (e e' : Engine) (asked : Asked) (s : Settings) (m given : List ℕ) → HasRequest IsHeadText e s m given
-    → e'.writer ≡ e.writer → e'.counts ≡ e.counts → e'.told ≡ e.told → e'.place ≡ e.place → e'.taken ≡ e.taken
+    → e'.writer ≡ e.writer → e'.progress.counts ≡ e.progress.counts → e'.progress.told ≡ e.progress.told → e'.progress.place ≡ e.progress.place → e'.progress.taken ≡ e.progress.taken
     → e'.head ≡ [] → ReadsRequestHead e.head (Ok asked.asks) → (IsRefusedId e.media (id_of asked.asks) → ⊥)
-    → asked.state ≡ state_before e.media asked.asks → e'.media ≡ admits e.media (id_of asked.asks) → asked.place ≡ e.taken
+    → asked.state ≡ state_before e.media asked.asks → e'.media ≡ admits e.media (id_of asked.asks) → asked.place ≡ e.progress.taken
     → HasResponse IsOpenHead asked e' s m given
 request-good e e' asked s m given h writer counts told place taken empty reads room state media asked_place = record {
   items = h.items;
@@ -358,7 +370,7 @@ halts-piece o e s m piece given used h =
 -- more of a response head
 pub response-longer : (IsText : List ℕ → Type 0) (asked : Asked) (e e' : Engine) (s : Settings) (m given prefix : List ℕ)
     → HasResponse IsOpenHead asked e s m given → IsSameHead e e' → e'.head ≡ e.head ++ prefix → IsText e'.head
-    → e'.taken ≡ e.taken + length prefix → HasResponse IsText asked e' s (m ++ prefix) given
+    → e'.progress.taken ≡ e.progress.taken + length prefix → HasResponse IsText asked e' s (m ++ prefix) given
 response-longer IsText asked e e' s m given prefix h same head text taken = record {
   items = h.items;
   request = h.request;
@@ -395,6 +407,42 @@ response-long asked e e' s m given prefix rest h same head long =
     }) refl refl (ap (λ p. ends.HeadLimit p) (sym h.place))
     (ap (λ x. given ++ x) (box-same e e' same) ∙ h.gave) (same.counts ∙ h.common.counts) (rw same.told h.common.told)
 
+-- the head that comes, by what is read next
+pub open-head : (t : State) (e : Engine) (s : Settings) (m given : List ℕ) → e.state ≡ t → IsInHead t → Reads e s m given
+    → HasHead IsOpenHead t e s m given
+open-head state.Idle e s m given is at r = absurd at
+open-head state.RequestHead e s m given is at r = open-request e s m given r is
+open-head (state.ResponseHead asked) e s m given is at r = open-response asked e s m given r is
+open-head (state.Body incoming) e s m given is at r = absurd at
+
+pub reads-head : (t : State) (e : Engine) (s : Settings) (m given : List ℕ) → e.state ≡ t → HasHead IsOpenHead t e s m given
+    → Reads e s m given
+reads-head state.Idle e s m given is h = absurd h
+reads-head state.RequestHead e s m given is h = reads-request e s m given h is
+reads-head (state.ResponseHead asked) e s m given is h = reads-response asked e s m given h is
+reads-head (state.Body incoming) e s m given is h = absurd h
+
+pub head-longer : (t : State) (IsText : List ℕ → Type 0) (e e' : Engine) (s : Settings) (m given prefix : List ℕ)
+    → HasHead IsOpenHead t e s m given → IsSameHead e e' → e'.head ≡ e.head ++ prefix → IsText e'.head
+    → e'.progress.taken ≡ e.progress.taken + length prefix → HasHead IsText t e' s (m ++ prefix) given
+head-longer state.Idle IsText e e' s m given prefix h same head text taken = absurd h
+head-longer state.RequestHead IsText e e' s m given prefix h same head text taken =
+    request-longer IsText e e' s m given prefix h same head text taken
+head-longer (state.ResponseHead asked) IsText e e' s m given prefix h same head text taken =
+    response-longer IsText asked e e' s m given prefix h same head text taken
+head-longer (state.Body incoming) IsText e e' s m given prefix h same head text taken = absurd h
+
+pub head-long : (t : State) (e e' : Engine) (s : Settings) (m given prefix rest : List ℕ) → HasHead IsOpenHead t e s m given
+    → IsSameHead e e' → e'.head ≡ e.head ++ prefix → IsLongHead e'.head
+    → Stops (outcome.HeadLimit (head_place_of t e')) e' s (m ++ (prefix ++ rest)) false given
+head-long state.Idle e e' s m given prefix rest h same head long = absurd h
+head-long state.RequestHead e e' s m given prefix rest h same head long =
+    subst (λ (p : ℕ). Stops (outcome.HeadLimit p) e' s (m ++ (prefix ++ rest)) false given) (sym same.place)
+    (request-long e e' s m given prefix rest h same head long)
+head-long (state.ResponseHead asked) e e' s m given prefix rest h same head long =
+    response-long asked e e' s m given prefix rest h same head long
+head-long (state.Body incoming) e e' s m given prefix rest h same head long = absurd h
+
 -- the response head is refused
 pub response-bad : (asked : Asked) (e e' : Engine) (s : Settings) (m given : List ℕ) (kind : BadKind) → HasResponse IsHeadText asked e s m given
     → IsSameHead e e' → ReadsResponseHead e.head asked.asks.is_head (Err kind) → Stops (outcome.Bad kind asked.place) e' s m false given
@@ -422,7 +470,7 @@ new-judged asked d f c s head state asks state_is asks_is same well =
 
 -- the response head is good
 pub response-good : (asked : Asked) (read : Decider × BodyFrame) (e e' : Engine) (s : Settings) (m given : List ℕ)
-    → HasResponse IsHeadText asked e s m given → IsSameHead e e' → e'.head ≡ e.head → e'.taken ≡ e.taken
+    → HasResponse IsHeadText asked e s m given → IsSameHead e e' → e'.head ≡ e.head → e'.progress.taken ≡ e.progress.taken
     → ReadsWell asked e.writer.settings e.head read.0 read.1 → HasReadHeads asked read e' s m given
 response-good asked read e e' s m given h same head taken well =
     let same_settings = h.common.settings in

@@ -104,7 +104,7 @@ limit-is = refl
 
 -- the pull gave some bytes past the last that a run takes
 pub turn-endless : (p : Result ℕ Failed) (count : ℕ) (e : Engine) (s : Settings) (m given room : List ℕ) → p ≡ Ok count
-    → (count ≡ 0 → ⊥) → count ≤ length room → e.taken ≡ 2 ^ 62 → HasRead e s m given
+    → (count ≡ 0 → ⊥) → count ≤ length room → e.progress.taken ≡ 2 ^ 62 → HasRead e s m given
     → RunAnswers outcome.Endless e s (m ++ piece_of p room) (is_ended p) given
 turn-endless p count e s m given room is some within full r =
     let size : run_limit ≡ length m = limit-is ∙ sym full ∙ r.reads.taken in
@@ -168,7 +168,7 @@ pull-ended (Err failed) a b room some h ended = absurd (let no : false ≡ true 
 pub run-ends : (r : Option EngineOutcome) (o : EngineOutcome) (p : Result ℕ Failed) (e e' : Engine) (s : Settings)
     (left left' left'' : Option (List ℕ)) (room given given' : List ℕ) → r ≡ Some o → 0 < length room
     → (w : Running e s left left' given) → Pulls left' left'' p room
-    → ((o ≡ outcome.Endless → ⊥) → e.taken + length (piece_of p room) ≤ 2 ^ 62)
+    → ((o ≡ outcome.Endless → ⊥) → e.progress.taken + length (piece_of p room) ≤ 2 ^ 62)
     → TurnAnswers r e' s (w.read ++ piece_of p room) (is_ended p) given' → Ran o e' s left left'' given'
 run-ends r o p e e' s left left' left'' room given given' is some w pulls within answers = record {
   read = w.read ++ piece_of p room;

@@ -1,5 +1,5 @@
 -- How much of a body was read, and what a fault in it leaves.
-use Rattle.std.proofs.Common.{◌≡◌, ◌⊎◌, ℕ, zero, suc, ◌+◌, ◌≤◌, Bool, true, false, List, [], ◌∷◌, ◌++◌, length, Option, None, Some, Result, Ok, Err, refl, sym, ap, subst, ◌∙◌, inl, inr, arith, append_assoc}
+use Rattle.std.proofs.Common.{◌≡◌, ◌⊎◌, ℕ, zero, suc, ◌+◌, ◌≤◌, Bool, true, false, List, [], ◌∷◌, ◌++◌, length, Option, None, Some, refl, sym, ap, subst, ◌∙◌, inl, inr, arith, append_assoc}
 use Rattle.std.specs.FinMap as map
 use Rattle.std.proofs.lemmas.List.{append-nil}
 use Rattle.std.proofs.lemmas.Bool.{false≢true}
@@ -142,7 +142,7 @@ seen-body s m items h sent body u spells whole good front reads =
 
 -- a fault while a body was written
 pub breaks-body : (e : Engine) (s : Settings) (m given more : List ℕ) (items : List Item) (wrote : List ℕ)
-    → IsTold e.told s items given → IsPrefix (given ++ more) wrote → IsSeen s m items wrote → Breaks e s m false (given ++ more)
+    → IsTold e.progress.told s items given → IsPrefix (given ++ more) wrote → IsSeen s m items wrote → Breaks e s m false (given ++ more)
 breaks-body e s m given more items wrote told within seen = record {
   seen = m;
   unseen = [];

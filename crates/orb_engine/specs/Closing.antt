@@ -7,7 +7,7 @@ use Rattle.response_rules.specs.Tables.{window_rule_of}
 use Rattle.response_rules.specs.Rules.{state_behind}
 use Rattle.orb_engine.specs.declared.settings.Settings.{Settings}
 use Rattle.orb_engine.specs.declared.engine.Engine.{Engine}
-use Rattle.orb_engine.specs.declared.engine.Stage.TheVariants as stage
+use Rattle.orb_engine.specs.declared.engine.states.State.TheVariants as state
 use Rattle.orb_engine.specs.declared.outcome.EngineOutcome.{EngineOutcome}
 use Rattle.orb_engine.specs.declared.outcome.EngineOutcome.TheVariants as outcome
 use Rattle.orb_engine.specs.Heads.{id_of, state_of, judged_by}
@@ -40,13 +40,13 @@ pub record Closed (e : Engine) (s : Settings) (c : Coming) (given : List ℕ) : 
   pub decided : coming_rule s c ≡ Some rule
   pub gave : given ++ gathered_by e.writer ≡ closed_written s c
   pub settings : e.writer.settings ≡ s
-  pub counts : e.counts ≡ counts_of (rules_of_items c.items ++ (rule ∷ []))
-  pub told : IsTold e.told s c.items given
-  pub asking : e.stage ≡ stage.Asking
+  pub counts : e.progress.counts ≡ counts_of (rules_of_items c.items ++ (rule ∷ []))
+  pub told : IsTold e.progress.told s c.items given
+  pub asking : e.state ≡ state.RequestHead
   pub head : e.head ≡ []
   pub media : e.media ≡ keeps (table_of c.items) (id_of c.heads.request.asks) (state_behind (state_of (table_of c.items) c.heads) rule)
   pub writer : IsWriterFor e.writer s
-  pub place : e.place ≡ e.taken
+  pub place : e.progress.place ≡ e.progress.taken
 
 -- no rule that is built decides it, and nothing was given of it
 pub record Undecided (e : Engine) (s : Settings) (c : Coming) (given : List ℕ) : Type 0 where
@@ -59,7 +59,7 @@ pub record ClosedBreaks (e : Engine) (s : Settings) (c : Coming) (given : List �
   pub rule : Rule
   pub decided : coming_rule s c ≡ Some rule
   pub within : IsPrefix given (closed_written s c)
-  pub told : IsTold e.told s c.items given
+  pub told : IsTold e.progress.told s c.items given
 
 -- what closing answers, where the response begins at this place
 abbrev pub Closes : Result (Unit {0}) EngineOutcome → (place : ℕ) → Engine → Settings → Coming → (given : List ℕ) → Type 0

@@ -11,7 +11,7 @@ use Rattle.http_exchange.specs.declared.frames.BodyFrame.{BodyFrame}
 use Rattle.httparse.specs.Grammar.{status_code, ResponseHead}
 use Rattle.response_rules.specs.Heads.{HasEssence}
 use Rattle.orb_engine.specs.declared.settings.Settings.{Settings}
-use Rattle.orb_engine.specs.declared.engine.Asked.{Asked}
+use Rattle.orb_engine.specs.declared.engine.states.Asked.{Asked}
 
 -- the head says this, and the decider was made of it
 pub record ReadsWell (asked : Asked) (s : Settings) (head : List ℕ) (decider : Decider) (frame : BodyFrame) : Type 0 where

@@ -1,8 +1,7 @@
 -- The two heads of an exchange, and what they say.
-use Rattle.std.specs.Prelude.{◌≡◌, ℕ, Bool, true, false, List, Option, Some, None, Ok, if◌then◌else◌, unwrap_or}
-use Rattle.std.specs.FinMap as map
+use Rattle.std.specs.Prelude.{◌≡◌, ℕ, Bool, true, false, List, Option, None, Ok, if◌then◌else◌}
 use Rattle.httparse.specs.Grammar.{status_code, ResponseHead}
-use Rattle.media_state.specs.Table.{States, admits, kept_state, IsRefusedId}
+use Rattle.media_state.specs.Table.{States, kept_state, IsRefusedId}
 use Rattle.media_state.specs.declared.states.MediaState.{MediaState}
 use Rattle.media_state.specs.declared.states.MediaState.TheVariants.{Na}
 use Rattle.response_rules.specs.Heads.{Head, HasEssence}

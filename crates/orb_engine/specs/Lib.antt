@@ -9,6 +9,7 @@ pub mod Media
 pub mod Workers
 pub mod Writing
 pub mod WorkerLaws
+pub mod Progress
 pub mod Reads
 pub mod Closing
 pub mod Runs

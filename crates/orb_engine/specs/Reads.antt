@@ -1,5 +1,5 @@
 -- What an engine has read of a recording, and what its calls answer.
-use Rattle.std.specs.Prelude.{◌≡◌, ℕ, ◌+◌, ◌≤◌, Bool, true, false, List, [], ◌++◌, length, take, Result, Ok, Err, if◌then◌else◌}
+use Rattle.std.specs.Prelude.{◌≡◌, ℕ, ◌+◌, ◌≤◌, Bool, true, false, List, [], ◌++◌, length, take, Result, Ok, Err}
 use Rattle.std.specs.FinMap as map
 use Rattle.orb_io.specs.Told.{IsPrefix, Rose}
 use Rattle.response_rules.specs.declared.rules.Rule.{Rule}
@@ -8,13 +8,14 @@ use Rattle.http_exchange.specs.Frames.{IsFront}
 use Rattle.http_exchange.specs.Reads.{IsTaken}
 use Rattle.http_exchange.specs.Reads.{HasRead as UnframerHasRead, Answers as UnframerAnswers}
 use Rattle.http_exchange.specs.declared.pieces.Taken.{Taken}
+use Rattle.http_exchange.specs.declared.unframing.Unframer.{Unframer}
 use Rattle.orb_engine.specs.declared.settings.Settings.{Settings}
-use Rattle.orb_engine.specs.declared.counts.Counts.{Counts}
+use Rattle.orb_engine.specs.declared.progress.Counts.{Counts}
 use Rattle.orb_engine.specs.declared.engine.Engine.{Engine}
-use Rattle.orb_engine.specs.declared.engine.Incoming.{Incoming}
-use Rattle.orb_engine.specs.declared.engine.Asked.{Asked as AskedRequest}
-use Rattle.orb_engine.specs.declared.engine.Stage.{Stage}
-use Rattle.orb_engine.specs.declared.engine.Stage.TheVariants as stage
+use Rattle.orb_engine.specs.declared.engine.states.Incoming.{Incoming}
+use Rattle.orb_engine.specs.declared.engine.states.Asked.{Asked as AskedRequest}
+use Rattle.orb_engine.specs.declared.engine.states.State.{State}
+use Rattle.orb_engine.specs.declared.engine.states.State.TheVariants as state
 use Rattle.orb_engine.specs.declared.outcome.EngineOutcome.{EngineOutcome}
 use Rattle.orb_engine.specs.declared.outcome.EngineOutcome.TheVariants as outcome
 use Rattle.response_rules.specs.declared.deciding.Decider.{Decider}
@@ -31,12 +32,6 @@ use Rattle.orb_engine.specs.Outputs.{output_of, written_items, written_front}
 use Rattle.orb_engine.specs.Counts.{rules_of_items, rules_of, count_allowed, count_blocked}
 use Rattle.orb_engine.specs.Workers.{IsNewFor}
 use Rattle.orb_engine.specs.Writing.{IsWriterFor, WriterReads, gathered_by}
-
--- one exchange more
-abbrev pub count_with : Counts → Bool → Counts
-count_with c allow =
-    if allow then record { allowed = c.allowed + 1; blocked = c.blocked }
-    else record { allowed = c.allowed; blocked = c.blocked + 1 }
 
 -- the numbers of exchanges that these rules decide
 abbrev pub counts_of : List Rule → Counts
@@ -61,9 +56,9 @@ pub record IsTold (counts : Counts) (s : Settings) (items : List Item) (wrote : 
 -- what an engine knows in each stage
 pub record Common (e : Engine) (s : Settings) (items : List Item) (given : List ℕ) : Type 0 where
   pub settings : e.writer.settings ≡ s
-  pub place : e.place ≡ length (spell_items items [])
-  pub counts : e.counts ≡ counts_of (rules_of_items items)
-  pub told : IsTold e.told s items given
+  pub place : e.progress.place ≡ length (spell_items items [])
+  pub counts : e.progress.counts ≡ counts_of (rules_of_items items)
+  pub told : IsTold e.progress.told s items given
 
 -- it is before a request head, or in it
 pub record Asks (e : Engine) (s : Settings) (items : List Item) (tail : Tail) : Type 0 where
@@ -122,11 +117,11 @@ pub record Sends (incoming : Incoming) (e : Engine) (s : Settings) (items : List
   pub is : tail ≡ cut.Sending heads sent body
   pub receives : Receives incoming e s (record { items = items; heads = heads; sent = sent; body = body })
 
-abbrev pub Stands : Stage → Engine → Settings → List Item → Tail → Type 0
-Stands stage.Idle e s items tail = ⊥
-Stands stage.Asking e s items tail = Asks e s items tail
-Stands (stage.Answering asked) e s items tail = Answers asked e s items tail
-Stands (stage.Sending incoming) e s items tail = Sends incoming e s items tail
+abbrev pub Stands : State → Engine → Settings → List Item → Tail → Type 0
+Stands state.Idle e s items tail = ⊥
+Stands state.RequestHead e s items tail = Asks e s items tail
+Stands (state.ResponseHead asked) e s items tail = Answers asked e s items tail
+Stands (state.Body incoming) e s items tail = Sends incoming e s items tail
 
 -- it has read these bytes, which are open, and given these; what is gathered is to be given after them
 pub record Reads (e : Engine) (s : Settings) (m given : List ℕ) : Type 0 where
@@ -135,9 +130,9 @@ pub record Reads (e : Engine) (s : Settings) (m given : List ℕ) : Type 0 where
   pub cut : IsRecording s m (open_cut items tail)
   pub open_ : is_open tail ≡ true
   pub gave : given ++ gathered_by e.writer ≡ output_of s (open_cut items tail) false
-  pub taken : e.taken ≡ length m
+  pub taken : e.progress.taken ≡ length m
   pub common : Common e s items given
-  pub stands : Stands e.stage e s items tail
+  pub stands : Stands e.state e s items tail
 
 -- it is after the heads of an exchange whose body comes; whether more of it may come isn't told yet
 pub record Fills (incoming : Incoming) (e : Engine) (s : Settings) (m given : List ℕ) : Type 0 where
@@ -147,7 +142,7 @@ pub record Fills (incoming : Incoming) (e : Engine) (s : Settings) (m given : Li
   pub good : AreHeads (table_of coming.items) coming.heads
   pub front : IsFront coming.heads.response.frame coming.sent coming.body
   pub gave : given ++ gathered_by e.writer ≡ coming_written s coming
-  pub taken : e.taken ≡ length m
+  pub taken : e.progress.taken ≡ length m
   pub common : Common e s coming.items given
   pub receives : Receives incoming e s coming
 
@@ -169,8 +164,8 @@ pub record Stops (o : EngineOutcome) (e : Engine) (s : Settings) (m : List ℕ) 
   pub cut : IsRecording s m recording
   pub stop : IsStop o (stop_of s recording ended)
   pub gave : given ++ gathered_by e.writer ≡ output_of s recording ended
-  pub counts : e.counts ≡ counts_of (rules_of s recording ended)
-  pub told : IsTold e.told s recording.items given
+  pub counts : e.progress.counts ≡ counts_of (rules_of s recording ended)
+  pub told : IsTold e.progress.told s recording.items given
 
 -- the sink failed: what was given is a prefix of what is written of the first bytes
 pub record Breaks (e : Engine) (s : Settings) (m : List ℕ) (ended : Bool) (given : List ℕ) : Type 0 where
@@ -181,7 +176,7 @@ pub record Breaks (e : Engine) (s : Settings) (m : List ℕ) (ended : Bool) (giv
   pub recording : Recording
   pub cut : IsRecording s seen recording
   pub within : IsPrefix given (output_of s recording ended)
-  pub told : IsTold e.told s recording.items given
+  pub told : IsTold e.progress.told s recording.items given
 
 -- what stops a step
 abbrev pub Halts : EngineOutcome → Engine → Settings → List ℕ → Bool → (given : List ℕ) → Type 0
@@ -218,7 +213,7 @@ pub record HasRequest (IsText : List ℕ → Type 0) (e : Engine) (s : Settings)
   pub media : e.media ≡ table_of items
   pub writer : IsWriterFor e.writer s
   pub gave : given ++ gathered_by e.writer ≡ written_items s map.empty 0 items
-  pub taken : e.taken ≡ length m
+  pub taken : e.progress.taken ≡ length m
   pub common : Common e s items given
 
 -- the same of a response head
@@ -238,8 +233,24 @@ pub record HasResponse (IsText : List ℕ → Type 0) (asked : AskedRequest) (e 
     pub state : asked.state ≡ state_before (table_of items) request.asks
     pub place : asked.place ≡ length (spell_items items []) + length request.bytes
     pub gave : given ++ gathered_by e.writer ≡ written_items s map.empty 0 items
-    pub taken : e.taken ≡ length m
+    pub taken : e.progress.taken ≡ length m
     pub common : Common e s items given
+
+-- the one or the other, by what is read next
+abbrev pub HasHead : (IsText : List ℕ → Type 0) → State → Engine → Settings → (m given : List ℕ) → Type 0
+HasHead IsText state.RequestHead e s m given = HasRequest IsText e s m given
+HasHead IsText (state.ResponseHead asked) e s m given = HasResponse IsText asked e s m given
+HasHead IsText t e s m given = ⊥
+
+abbrev pub IsInHead : State → Type 0
+IsInHead state.RequestHead = Unit {0}
+IsInHead (state.ResponseHead asked) = Unit {0}
+IsInHead t = ⊥
+
+-- where the head begins
+abbrev pub head_place_of : State → Engine → ℕ
+head_place_of (state.ResponseHead asked) e = asked.place
+head_place_of t e = e.progress.place
 
 -- it was read whole, and this is a decider for its response, with its frame
 pub record HasReadHeads (asked : AskedRequest) (read : Decider × BodyFrame) (e : Engine) (s : Settings) (m given : List ℕ) : Type 0
@@ -252,11 +263,11 @@ pub record HasReadHeads (asked : AskedRequest) (read : Decider × BodyFrame) (e 
     pub new : IsNewFor read.0 s (judged_by s (table_of whole.items) (record { request = whole.request; response = response }))
 
 -- what `Fills` says, where it is in a body
-abbrev pub FillsAt : Stage → Engine → Settings → List ℕ → List ℕ → Type 0
-FillsAt stage.Idle e s m given = ⊥
-FillsAt stage.Asking e s m given = ⊥
-FillsAt (stage.Answering asked) e s m given = ⊥
-FillsAt (stage.Sending incoming) e s m given = Fills incoming e s m given
+abbrev pub FillsAt : State → Engine → Settings → List ℕ → List ℕ → Type 0
+FillsAt state.Idle e s m given = ⊥
+FillsAt state.RequestHead e s m given = ⊥
+FillsAt (state.ResponseHead asked) e s m given = ⊥
+FillsAt (state.Body incoming) e s m given = Fills incoming e s m given
 
 -- the unframer has taken this further content, which the writer hasn't read yet
 pub record Passes (incoming : Incoming) (e : Engine) (s : Settings) (m piece given : List ℕ) : Type 0 where
@@ -266,7 +277,7 @@ pub record Passes (incoming : Incoming) (e : Engine) (s : Settings) (m piece giv
   pub good : AreHeads (table_of coming.items) coming.heads
   pub front : IsFront coming.heads.response.frame coming.sent (coming.body ++ piece)
   pub gave : given ++ gathered_by e.writer ≡ coming_written s coming
-  pub taken : e.taken ≡ length m
+  pub taken : e.progress.taken ≡ length m
   pub common : Common e s coming.items given
   pub unframer : UnframerHasRead incoming.unframer coming.heads.response.frame coming.sent (coming.body ++ piece)
   pub writer : WriterReads e.writer s (coming_response s coming) coming.body
@@ -275,25 +286,17 @@ pub record Passes (incoming : Incoming) (e : Engine) (s : Settings) (m piece giv
   pub to_end : incoming.to_end ≡ is_to_end coming.heads.response.frame
   pub place : incoming.place ≡ response_place (length (spell_items coming.items [])) coming.heads
 
-abbrev pub PassesAt : Stage → Engine → Settings → (m piece given : List ℕ) → Type 0
-PassesAt stage.Idle e s m piece given = ⊥
-PassesAt stage.Asking e s m piece given = ⊥
-PassesAt (stage.Answering asked) e s m piece given = ⊥
-PassesAt (stage.Sending incoming) e s m piece given = Passes incoming e s m piece given
+abbrev pub IsInBody : State → Type 0
+IsInBody (state.Body incoming) = Unit {0}
+IsInBody t = ⊥
 
-abbrev pub IsSending : Stage → Type 0
-IsSending stage.Idle = ⊥
-IsSending stage.Asking = ⊥
-IsSending (stage.Answering asked) = ⊥
-IsSending (stage.Sending incoming) = Unit {0}
+abbrev pub with_unframer : Incoming → Unframer → Incoming
+with_unframer i u = record { unframer = u; to_end = i.to_end; id = i.id; place = i.place }
 
 -- what a body's unframer took of a piece; all else of the body is as it was
-pub record Unframes (i : Incoming) (after : Stage) (piece : List ℕ) (t : Taken) : Type 0 where
-  pub incoming : Incoming
-  pub is : after ≡ stage.Sending incoming
-  pub to_end : incoming.to_end ≡ i.to_end
-  pub id : incoming.id ≡ i.id
-  pub place : incoming.place ≡ i.place
-  pub taken : IsTaken t incoming.unframer piece
+pub record Unframes (i : Incoming) (after : State) (piece : List ℕ) (t : Taken) : Type 0 where
+  pub unframer : Unframer
+  pub is : after ≡ state.Body (with_unframer i unframer)
+  pub taken : IsTaken t unframer piece
   pub answers : (f : BodyFrame) (m given : List ℕ) → UnframerHasRead i.unframer f m given
-      → UnframerAnswers t incoming.unframer f m given piece
+      → UnframerAnswers t unframer f m given piece

@@ -22,19 +22,19 @@ abbrev pub settings_of : Engine → Settings
 settings_of e = e.writer.settings
 
 abbrev pub taken_by : Engine → ℕ
-taken_by e = e.taken
+taken_by e = e.progress.taken
 
 abbrev pub allowed_by : Engine → ℕ
-allowed_by e = e.counts.allowed
+allowed_by e = e.progress.counts.allowed
 
 abbrev pub blocked_by : Engine → ℕ
-blocked_by e = e.counts.blocked
+blocked_by e = e.progress.counts.blocked
 
 -- it has read these bytes of a recording, and given these
 pub record HasRead (e : Engine) (s : Settings) (m given : List ℕ) : Type 0 where
   pub reads : Reads e s m given
   pub flushed : box_of e.writer ≡ empty_outbox
-  pub few : e.taken ≤ 2 ^ 62
+  pub few : e.progress.taken ≤ 2 ^ 62
 
 -- it reads a recording
 pub record CanFeed (e : Engine) : Type 0 where

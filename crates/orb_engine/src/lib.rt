@@ -9,25 +9,20 @@
 //! An [`Engine`] takes a recording in pieces, cut anywhere, or runs over a source and a sink. Behind each
 //! piece the sink has all output that the bytes so far settle. It takes memory only when it is opened.
 //!
-//! A piece goes through `feeding`, step by step: `steps` reads heads, gathered by `heads`; `bodies` passes on
-//! content; `closing` ends an exchange. What is written goes through `writer`, which lets `worker` filter or
-//! explain, and gathers short outputs in `boxes`.
+//! `engine` has the public calls, `engine/states` what it reads next and each step from there on, and
+//! `engine/runs` whole runs. A head is gathered and read by `heads`. What is written goes through `writer`,
+//! which lets `worker` filter or explain, and gathers short outputs. `progress` counts.
 #![tactic(auto)]
 
-mod api;
-mod bodies;
-mod closing;
-mod counts;
 mod engine;
-mod feeding;
+mod frames;
 mod heads;
 mod laws;
 mod lines;
 mod media;
 mod outcome;
-mod running;
+mod progress;
 mod settings;
-mod steps;
 #[cfg(test)]
 mod tests;
 mod worker;

@@ -1,25 +1,48 @@
-use Rattle.std.proofs.Common.{refl}
-use Rattle.orb_io.proofs.GivesLemmas.{Gives-none}
-use Rattle.orb_engine.proofs.HeadStepLemmas.{response-good, response-bad}
+use Rattle.std.proofs.Common.{◌++◌, refl}
+use Rattle.response_rules.specs.declared.deciding.Decider.{Decider}
+use Rattle.http_exchange.specs.declared.frames.BodyFrame.{BodyFrame}
+use Rattle.orb_io.proofs.GivesLemmas.{Gives-weaker, Gives-then}
+use Rattle.orb_engine.specs.Heads.{judged_by}
+use Rattle.orb_engine.specs.Reads.{table_of}
+use Rattle.orb_engine.proofs.BeginLemmas.{begun, same-exchange, begun-fills, begun-breaks}
 use Rattle.orb_engine.proofs.engine.Engine.begin_body.Goals as goal
 
-pub begin_sending-requires-clause-can : goal.begin_sending-requires-clause-can
-begin_sending-requires-clause-can g c =
-    let (s, m, given, h) = c.requires.can in (
+pub settle_body-requires-clause-can : goal.settle_body-requires-clause-can
+settle_body-requires-clause-can g c =
+    let (s, m, given, q) = c.requires.can in
+    let read : Decider × BodyFrame = (c.args.decider, c.args.frame) in
+    let h = (begun c.args.asked read c.args.self.now s m given q).heads in
+    let x = same-exchange c.args.asked read c.args.self.now s m given q c.as_slice.result.now c.is_chunked-chunked.result
+    c.as_slice.ensures.value c.is_chunked-chunked.ensures in
+    let passed = c.in-Ok.ensures.passes s (judged_by s (table_of q.whole.items) h) given q.whole.writer q.new in (
       s,
       m,
-      given,
-      response-good c.args.asked (c.in-Ok.decider, c.in-Ok.frame) c.args.self.now _ s m given h
-          (record { media = refl; place = refl; counts = refl; told = refl; writer = refl }) c.response.ensures.same refl c.in-Ok.ensures.reads,
+      given ++ passed.more,
+      begun-fills _ c.args.asked read c.args.self.now _ s m given passed.more q _
+          (record { media = refl; place = refl; taken = refl; counts = refl; told = refl; settings = c.in-Ok.ensures.settings })
+          x passed.holds.0 passed.holds.1 c.new.ensures c.is_to_end.ensures c.id_of.ensures refl,
     )
 
 pub returns-in-Ok-clause-settles : goal.returns-in-Ok-clause-settles
-returns-in-Ok-clause-settles g c = λ s m given h.
-    c.begin_sending.ensures.settles s m given (response-good c.args.asked (c.in-Ok.decider, c.in-Ok.frame) c.args.self.now _ s m given h
-    (record { media = refl; place = refl; counts = refl; told = refl; writer = refl }) c.response.ensures.same refl c.in-Ok.ensures.reads)
+returns-in-Ok-clause-settles g c = λ s m given q.
+    let read : Decider × BodyFrame = (c.args.decider, c.args.frame) in
+    let h = (begun c.args.asked read c.args.self.now s m given q).heads in
+    let x = same-exchange c.args.asked read c.args.self.now s m given q c.as_slice.result.now c.is_chunked-chunked.result
+    c.as_slice.ensures.value c.is_chunked-chunked.ensures in
+    Gives-then _ _ _ given _ _ (c.in-Ok.ensures.passes s (judged_by s (table_of q.whole.items) h) given q.whole.writer q.new)
+    (λ more passed. c.settle_body.ensures.settles s m (given ++ more)
+    (begun-fills _ c.args.asked read c.args.self.now _ s m given more q _
+    (record { media = refl; place = refl; taken = refl; counts = refl; told = refl; settings = c.in-Ok.ensures.settings })
+    x passed.0 passed.1 c.new.ensures c.is_to_end.ensures c.id_of.ensures refl))
 
 pub returns-in-Err-clause-settles : goal.returns-in-Err-clause-settles
-returns-in-Err-clause-settles g c = λ s m given h.
-    Gives-none _ given _ (g.met.O.Sink.told_agrees c.args.output.now)
-    (response-bad c.args.asked c.args.self.now _ s m given c.in-Err.kind h
-    (record { media = refl; place = refl; counts = refl; told = refl; writer = refl }) c.in-Err.ensures.reads)
+returns-in-Err-clause-settles g c = λ s m given q.
+    let read : Decider × BodyFrame = (c.args.decider, c.args.frame) in
+    let h = (begun c.args.asked read c.args.self.now s m given q).heads in
+    let x = same-exchange c.args.asked read c.args.self.now s m given q c.as_slice.result.now c.is_chunked-chunked.result
+    c.as_slice.ensures.value c.is_chunked-chunked.ensures in
+    Gives-weaker _ _ given _ _ (λ more within.
+    begun-breaks c.args.asked read c.args.self.now _ s m given more q _
+    (record { media = refl; place = refl; taken = refl; counts = refl; told = refl; settings = c.in-Err.ensures.settings })
+    x within)
+    (c.in-Err.ensures.passes s (judged_by s (table_of q.whole.items) h) given q.whole.writer q.new)

@@ -9,49 +9,49 @@ use Rattle.orb_engine.proofs.engine.Engine.finish.Goals as goal
 
 pub returns-then-not-incoming-clause-halts : goal.returns-then-not-incoming-clause-halts
 returns-then-not-incoming-clause-halts g c = λ s m given r.
-    let h = open-body c.in-Sending.incoming c.args.self.now s m given r c.in-Sending.is in
+    let h = open-body c.in-Body.incoming c.args.self.now s m given r c.in-Body.is in
     Gives-none _ given _ (g.met.O.Sink.told_agrees c.args.output.now)
-    (sending-cut c.in-Sending.incoming c.args.self.now s m given h c.if-not-incoming.true)
+    (rw c.place.ensures (sending-cut c.in-Body.incoming c.args.self.now s m given h c.if-not-incoming.true))
 
 pub close-requires-clause-can : goal.close-requires-clause-can
 close-requires-clause-can g c =
     let (s, m, given, r) = c.requires.can in
-    let h = open-body c.in-Sending.incoming c.args.self.now s m given r c.in-Sending.is in
-    (s, h.coming, given, closing c.in-Sending.incoming c.args.self.now s m given h)
+    let h = open-body c.in-Body.incoming c.args.self.now s m given r c.in-Body.is in
+    (s, h.coming, given, closing c.in-Body.incoming c.args.self.now s m given h)
 
 pub close-requires-clause-few : goal.close-requires-clause-few
 close-requires-clause-few g c =
     let (s, m, given, r) = c.requires.can in
-    closing-few c.in-Sending.incoming c.args.self.now s m given (open-body c.in-Sending.incoming c.args.self.now s m given r c.in-Sending.is) c.requires.few
+    closing-few c.in-Body.incoming c.args.self.now s m given (open-body c.in-Body.incoming c.args.self.now s m given r c.in-Body.is) c.requires.few
 
 pub returns-then-is_empty-clause-halts : goal.returns-then-is_empty-clause-halts
 returns-then-is_empty-clause-halts g c = λ s m given r.
     let empty : c.as_slice.result.now ≡ [] = nil_from_length _ (eqb-true _ _ (sym c.is_empty.ensures ∙ c.if-is_empty.true)) in
     Gives-none _ given _ (g.met.O.Sink.told_agrees c.args.output.now)
-    (asking-done c.args.self.now s m given (open-request c.args.self.now s m given r c.in-Asking.is) (sym c.as_slice.ensures.value ∙ empty))
+    (asking-done c.args.self.now s m given (open-request c.args.self.now s m given r c.in-RequestHead.is) (sym c.as_slice.ensures.value ∙ empty))
 
 pub returns-else-is_empty-clause-halts : goal.returns-else-is_empty-clause-halts
 returns-else-is_empty-clause-halts g c = λ s m given r.
     Gives-none _ given _ (g.met.O.Sink.told_agrees c.args.output.now)
-    (asking-cut c.args.self.now s m given (open-request c.args.self.now s m given r c.in-Asking.is)
-    (λ empty. false≢true (sym c.if-is_empty.false ∙ c.is_empty.ensures ∙ ap (λ x. eqb (length x) 0) (c.as_slice.ensures.value ∙ empty))))
+    (rw c.place.ensures (asking-cut c.args.self.now s m given (open-request c.args.self.now s m given r c.in-RequestHead.is)
+    (λ empty. false≢true (sym c.if-is_empty.false ∙ c.is_empty.ensures ∙ ap (λ x. eqb (length x) 0) (c.as_slice.ensures.value ∙ empty)))))
 
-pub returns-in-Answering-clause-halts : goal.returns-in-Answering-clause-halts
-returns-in-Answering-clause-halts g c = λ s m given r.
+pub returns-in-ResponseHead-clause-halts : goal.returns-in-ResponseHead-clause-halts
+returns-in-ResponseHead-clause-halts g c = λ s m given r.
     Gives-none _ given _ (g.met.O.Sink.told_agrees c.args.output.now)
-    (answering-cut c.in-Answering.field-0 c.args.self.now s m given
-    (open-response c.in-Answering.field-0 c.args.self.now s m given r c.in-Answering.is))
+    (rw c.place.ensures (answering-cut c.in-ResponseHead.field-0 c.args.self.now s m given
+    (open-response c.in-ResponseHead.field-0 c.args.self.now s m given r c.in-ResponseHead.is)))
 
 pub returns-in-Ok-clause-halts : goal.returns-in-Ok-clause-halts
 returns-in-Ok-clause-halts g c = λ s m given r.
-    let h = open-body c.in-Sending.incoming c.args.self.now s m given r c.in-Sending.is in
+    let h = open-body c.in-Body.incoming c.args.self.now s m given r c.in-Body.is in
     Gives-weaker _ _ given _ _ (λ more closed.
-    ended-body (Ok tt) c.in-Sending.incoming c.args.self.now c.close.new.self s m given (given ++ more) h c.if-not-incoming.false closed)
-    (c.in-Ok.ensures.closes s h.coming given (closing c.in-Sending.incoming c.args.self.now s m given h))
+    ended-body (Ok tt) c.in-Body.incoming c.args.self.now c.close.new.self s m given (given ++ more) h c.if-not-incoming.false closed)
+    (c.in-Ok.ensures.closes s h.coming given (closing c.in-Body.incoming c.args.self.now s m given h))
 
 pub returns-in-Err-clause-halts : goal.returns-in-Err-clause-halts
 returns-in-Err-clause-halts g c = λ s m given r.
-    let h = open-body c.in-Sending.incoming c.args.self.now s m given r c.in-Sending.is in
+    let h = open-body c.in-Body.incoming c.args.self.now s m given r c.in-Body.is in
     Gives-weaker _ _ given _ _ (λ more closed.
-    ended-body (Err c.in-Err.stop) c.in-Sending.incoming c.args.self.now c.close.new.self s m given (given ++ more) h c.if-not-incoming.false closed)
-    (c.in-Err.ensures.closes s h.coming given (closing c.in-Sending.incoming c.args.self.now s m given h))
+    ended-body (Err c.in-Err.stop) c.in-Body.incoming c.args.self.now c.close.new.self s m given (given ++ more) h c.if-not-incoming.false closed)
+    (c.in-Err.ensures.closes s h.coming given (closing c.in-Body.incoming c.args.self.now s m given h))

@@ -14,7 +14,7 @@ invariant-steps g l = record {
       → Gives (g.O.Sink.told l.initial.output) (g.O.Sink.told l.output) given (Reads l.self s (m ++ prefix));
   calm : g.O.Sink.faults l.output ≡ g.O.Sink.faults l.initial.output;
   keeps : g.O.Sink.kept l.initial.output l.output;
-  taken : l.self.taken ≡ l.initial.self.taken + length prefix;
+  taken : l.self.progress.taken ≡ l.initial.self.progress.taken + length prefix;
   settings : l.self.writer.settings ≡ l.initial.self.writer.settings;
 }
 

@@ -7,7 +7,7 @@ ghost use Rattle.orb_engine.specs.declared.outcome.EngineOutcome.{EngineOutcome}
 ghost use Rattle.orb_engine.specs.Runs.{settings_of, taken_by, HasRead, CanFeed, Ran, RunCauses};
 ghost use Rattle.orb_engine.specs.Turns.{piece_of, is_ended, TurnAnswers, TurnCauses};
 
-use crate::engine::Engine;
+use super::Engine;
 use crate::outcome::EngineOutcome;
 use orb_io::{Duplex, Failed, Sink, Source};
 
@@ -31,7 +31,7 @@ impl Engine {
         self.start();
         let mut room = [0u8; PULL];
         'pulls: loop {
-            let pulled = pull_some(input, &mut room, size_of_pull(self.taken));
+            let pulled = pull_some(input, &mut room, size_of_pull(self.progress.taken()));
             if let Some(outcome) = self.turn(pulled, &room, output) {
                 return outcome;
             }
@@ -49,7 +49,7 @@ impl Engine {
         self.start();
         let mut room = [0u8; PULL];
         'pulls: loop {
-            let pulled = pull_some(link, &mut room, size_of_pull(self.taken));
+            let pulled = pull_some(link, &mut room, size_of_pull(self.progress.taken()));
             if let Some(outcome) = self.turn(pulled, &room, link) {
                 return outcome;
             }
@@ -81,7 +81,7 @@ impl Engine {
     {
         match pulled {
             Ok(0) => Some(self.end(output)),
-            Ok(_) if self.taken == RUN => Some(EngineOutcome::Endless),
+            Ok(_) if self.progress.taken() == RUN => Some(EngineOutcome::Endless),
             Ok(count) => self.feed(&room[..count], output),
             Err(_) => Some(EngineOutcome::ReadFault),
         }

@@ -1,0 +1,12 @@
+use Rattle.orb_io.proofs.GivesLemmas.{Gives-none}
+use Rattle.orb_engine.specs.declared.engine.states.State.{State}
+use Rattle.http_exchange.specs.HeadTexts.{IsHeadText}
+use Rattle.std.proofs.Common.{subst}
+use Rattle.orb_engine.specs.Reads.{HasHead}
+use Rattle.orb_engine.proofs.engine.Engine.read_head.Goals as goal
+
+pub returns-in-RequestHead-clause-settles : goal.returns-in-RequestHead-clause-settles
+returns-in-RequestHead-clause-settles g c = λ s m given h.
+    Gives-none _ given _ (g.met.O.Sink.told_agrees c.args.output.now)
+    (c.read_request.ensures.settles s m given
+    (subst (λ (t : State). HasHead IsHeadText t c.args.self.now s m given) c.in-RequestHead.is h))
