@@ -118,14 +118,14 @@ chunk-full front back full =
     ap (λ d. d ++ (crlf ++ ((front ++ back) ++ crlf)))
     (sym (ap (digits 16 false) (length-append front back ∙ full) ∙ size_line))
 
-behind : (text line front back end : List ℕ)
+after : (text line front back end : List ℕ)
     → (((text ++ line) ++ front) ++ back) ++ end ≡ text ++ (((line ++ front) ++ back) ++ end)
-behind text line front back end = simp append_assoc
+after text line front back end = simp append_assoc
 
-pub chunk-behind : (text front back : List ℕ) → length front + length back ≡ 1024
+pub chunk-after : (text front back : List ℕ) → length front + length back ≡ 1024
     → (((text ++ (52 ∷ 48 ∷ 48 ∷ 13 ∷ 10 ∷ [])) ++ front) ++ back) ++ (13 ∷ 10 ∷ []) ≡ text ++ chunk (front ++ back)
-chunk-behind text front back full =
-    behind text (52 ∷ 48 ∷ 48 ∷ 13 ∷ 10 ∷ []) front back (13 ∷ 10 ∷ []) ∙ ap (λ t. text ++ t) (chunk-full front back full)
+chunk-after text front back full =
+    after text (52 ∷ 48 ∷ 48 ∷ 13 ∷ 10 ∷ []) front back (13 ∷ 10 ∷ []) ∙ ap (λ t. text ++ t) (chunk-full front back full)
 
 pub chunk-some : (bytes : List ℕ) → 0 < length (chunk bytes)
 unfolding chunk

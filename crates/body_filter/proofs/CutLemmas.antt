@@ -33,7 +33,7 @@ gathers-one kept left size full =
       rest_is = sym (rest-none (kept ++ take size left) full');
     }
 
--- more was read, behind what was
+-- more was read, after what was
 pub gathers-more : (kept piece text rest left more rest' left' : List ℕ)
     → Gathers kept piece text rest left → Gathers rest left more rest' left'
     → Gathers kept piece (text ++ more) rest' left'

@@ -10,17 +10,17 @@ use Rattle.response_rules.specs.Tables.{window_size, window_rule_of}
 use Rattle.response_rules.specs.Settled.{is_full, is_sent, is_hopeless, is_in_text}
 use Rattle.response_rules.proofs.TableLemmas.{rule_is_computed}
 use Rattle.response_rules.proofs.SettledLemmas.{settled-full, settled-whole, hopeless-longer, hopeless-unsent, hopeless-blocks, open-short}
-use Rattle.body_filter.specs.Chunks.{chunk_size, body_front}
-use Rattle.body_filter.specs.Exchanges.{Exchange, front_of, is_given_up, held_of}
+use Rattle.body_filter.specs.Chunks.{chunk_size, body_so_far}
+use Rattle.body_filter.specs.Responses.{Response, output_so_far, is_given_up, held_of}
 
 -- nothing, or the head and the body
-pub front-unsent : (x : Exchange) (m : List ℕ) → is_sent x.head m ≡ false → front_of x m ≡ []
-unfolding front_of
-front-unsent x m unsent = rw unsent refl
+pub so_far-unsent : (x : Response) (m : List ℕ) → is_sent x.head m ≡ false → output_so_far x m ≡ []
+unfolding output_so_far
+so_far-unsent x m unsent = rw unsent refl
 
-pub front-sent : (x : Exchange) (m : List ℕ) → is_sent x.head m ≡ true → front_of x m ≡ x.bytes ++ body_front x.chunked m
-unfolding front_of
-front-sent x m sent = rw sent refl
+pub so_far-sent : (x : Response) (m : List ℕ) → is_sent x.head m ≡ true → output_so_far x m ≡ x.bytes ++ body_so_far x.chunked m
+unfolding output_so_far
+so_far-sent x m sent = rw sent refl
 
 -- both of two tests
 left_of : (a b : Bool) → (a && b) ≡ true → a ≡ true
@@ -150,15 +150,15 @@ given_up-fits h m p limit held b same all low fits unsent is =
     ∙ (ap (λ l. is_hopeless h (m ++ p) || not (nat_le (length p) (limit - l))) (sym all) ∙ is))
 
 -- how much is kept back
-pub held-holding : (x : Exchange) (m : List ℕ) → is_sent x.head m ≡ false → is_given_up x.head m ≡ false → held_of x m ≡ length m
+pub held-holding : (x : Response) (m : List ℕ) → is_sent x.head m ≡ false → is_given_up x.head m ≡ false → held_of x m ≡ length m
 unfolding held_of
 held-holding x m unsent hopeful = rw (unsent, hopeful) refl
 
-pub held-sending : (x : Exchange) (m : List ℕ) → is_sent x.head m ≡ true
+pub held-passing : (x : Response) (m : List ℕ) → is_sent x.head m ≡ true
     → held_of x m ≡ (if x.chunked then length m % chunk_size else 0)
 unfolding held_of
-held-sending x m sent = rw sent refl
+held-passing x m sent = rw sent refl
 
-pub held-dropping : (x : Exchange) (m : List ℕ) → is_given_up x.head m ≡ true → held_of x m ≡ 0
+pub held-dropping : (x : Response) (m : List ℕ) → is_given_up x.head m ≡ true → held_of x m ≡ 0
 unfolding held_of
 held-dropping x m over = rw (given_up-unsent x.head m over, over) refl

@@ -6,8 +6,8 @@ use Rattle.response_rules.specs.Tables.{window_size}
 use Rattle.response_rules.specs.Settled.{is_sent, is_hopeless, is_in_text}
 use Rattle.response_rules.proofs.SettledLemmas.{open-short}
 use Rattle.body_filter.specs.Chunks.{chunk_size}
-use Rattle.body_filter.specs.Exchanges.{Exchange, is_given_up, held_of}
-use Rattle.body_filter.proofs.FilterLemmas.{held-holding, held-sending, held-dropping, given_up-hopeless}
+use Rattle.body_filter.specs.Responses.{Response, is_given_up, held_of}
+use Rattle.body_filter.proofs.FilterLemmas.{held-holding, held-passing, held-dropping, given_up-hopeless}
 
 -- not given up: none of the two
 hopeful_by : (hopeless text long : Bool) → (hopeless || (text && long)) ≡ false → hopeless ≡ false
@@ -40,21 +40,21 @@ kept_short true n = omega arith
 kept_short false n = omega arith
 
 -- a bound of what is held, from one of a body that is kept whole
-bound_by : (x : Exchange) (m : List ℕ) (most : ℕ) → 1024 ≤ most
+bound_by : (x : Response) (m : List ℕ) (most : ℕ) → 1024 ≤ most
     → (is_sent x.head m ≡ false → is_given_up x.head m ≡ false → length m ≤ most) → held_of x m ≤ most
 bound_by x m most low holds = by (is_sent x.head m) (is_given_up x.head m) refl refl
   where
     by : (s g : Bool) → is_sent x.head m ≡ s → is_given_up x.head m ≡ g → held_of x m ≤ most
     by true g sent over =
-        rw (held-sending x m sent) (let short = kept_short x.chunked (length m) in omega arith)
+        rw (held-passing x m sent) (let short = kept_short x.chunked (length m) in omega arith)
     by false true unsent over = rw (held-dropping x m over) (omega arith)
     by false false unsent hopeful = rw (held-holding x m unsent hopeful) (holds unsent hopeful)
 
-pub held-window : (x : Exchange) (m : List ℕ) → is_in_text x.head m ≡ false → held_of x m ≤ 1024
+pub held-window : (x : Response) (m : List ℕ) → is_in_text x.head m ≡ false → held_of x m ≤ 1024
 held-window x m untext =
     bound_by x m 1024 (omega arith) (λ unsent hopeful. open_short x.head m unsent hopeful untext)
 
-pub held-limit : (x : Exchange) (m : List ℕ) → 1024 ≤ x.head.limit → held_of x m ≤ x.head.limit
+pub held-limit : (x : Response) (m : List ℕ) → 1024 ≤ x.head.limit → held_of x m ≤ x.head.limit
 held-limit x m low =
     bound_by x m x.head.limit low (λ unsent hopeful. by (is_in_text x.head m) refl unsent hopeful)
   where
@@ -62,5 +62,5 @@ held-limit x m low =
     by true text unsent hopeful = text_fits x.head m hopeful text
     by false untext unsent hopeful = omega (arith, open_short x.head m unsent hopeful untext)
 
-pub held-hopeless : (x : Exchange) (m : List ℕ) → is_hopeless x.head m ≡ true → held_of x m ≡ 0
+pub held-hopeless : (x : Response) (m : List ℕ) → is_hopeless x.head m ≡ true → held_of x m ≡ 0
 held-hopeless x m hopeless = held-dropping x m (given_up-hopeless x.head m hopeless)

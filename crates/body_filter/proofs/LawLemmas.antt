@@ -9,55 +9,55 @@ use Rattle.response_rules.specs.Rules.{is_allowing}
 use Rattle.response_rules.specs.Tables.{window_rule_of}
 use Rattle.response_rules.specs.Settled.{is_sent}
 use Rattle.response_rules.proofs.SettledLemmas.{sent-longer, sent-allows}
-use Rattle.body_filter.specs.Chunks.{chunk_size, crlf, chunk, full_chunks, count_full, rest_of, rest_chunk, last_chunk, body_front, body_whole, kept_of}
+use Rattle.body_filter.specs.Chunks.{chunk_size, crlf, chunk, full_chunks, count_full, rest_of, rest_chunk, last_chunk, body_so_far, whole_body, kept_of}
 use Rattle.body_filter.specs.Writes.{put_of, end_of}
 use Rattle.body_filter.specs.Reply.{reply_of}
-use Rattle.body_filter.specs.Exchanges.{Exchange, front_of, whole_of, decided, decided_by}
+use Rattle.body_filter.specs.Responses.{Response, output_so_far, whole_output, decided, decided_by}
 use Rattle.orb_bytes.proofs.HexadecimalLemmas.{three_at_most}
 use Rattle.body_filter.proofs.ReplyLemmas.{reply-short}
 use Rattle.body_filter.proofs.ChunkLemmas.{full_fits, rest-length, rest-short}
 use Rattle.body_filter.proofs.WriteLemmas.{front-on, whole-is}
-use Rattle.body_filter.proofs.FilterLemmas.{front-unsent, front-sent}
+use Rattle.body_filter.proofs.FilterLemmas.{so_far-unsent, so_far-sent}
 
 -- a body that goes out, and a longer one
-body-grows : (chunked : Bool) (m p : List ℕ) → IsPrefix (body_front chunked m) (body_front chunked (m ++ p))
+body-grows : (chunked : Bool) (m p : List ℕ) → IsPrefix (body_so_far chunked m) (body_so_far chunked (m ++ p))
 body-grows chunked m p = (put_of chunked (kept_of chunked m) p, front-on chunked m p)
 
-pub front-grows : (x : Exchange) (m more : List ℕ) → IsPrefix (front_of x m) (front_of x (m ++ more))
+pub front-grows : (x : Response) (m more : List ℕ) → IsPrefix (output_so_far x m) (output_so_far x (m ++ more))
 front-grows x m more = by (is_sent x.head m) refl
   where
-    by : (b : Bool) → is_sent x.head m ≡ b → IsPrefix (front_of x m) (front_of x (m ++ more))
-    by false unsent = rw (front-unsent x m unsent) (IsPrefix-none (front_of x (m ++ more)))
+    by : (b : Bool) → is_sent x.head m ≡ b → IsPrefix (output_so_far x m) (output_so_far x (m ++ more))
+    by false unsent = rw (so_far-unsent x m unsent) (IsPrefix-none (output_so_far x (m ++ more)))
     by true sent =
-        rw (front-sent x m sent, front-sent x (m ++ more) (sent-longer x.head m more sent))
-        (IsPrefix-after x.bytes (body_front x.chunked m) (body_front x.chunked (m ++ more)) (body-grows x.chunked m more))
+        rw (so_far-sent x m sent, so_far-sent x (m ++ more) (sent-longer x.head m more sent))
+        (IsPrefix-after x.bytes (body_so_far x.chunked m) (body_so_far x.chunked (m ++ more)) (body-grows x.chunked m more))
 
 -- a whole exchange that a rule decides
-pub whole-decided : (x : Exchange) (m : List ℕ) (r : Rule) → window_rule_of x.head m ≡ Some r → whole_of x m ≡ decided_by x m r
-unfolding whole_of
+pub whole-decided : (x : Response) (m : List ℕ) (r : Rule) → window_rule_of x.head m ≡ Some r → whole_output x m ≡ decided_by x m r
+unfolding whole_output
 whole-decided x m r rule = ap (decided x m) rule
 
-pub whole-allowed : (x : Exchange) (m : List ℕ) (r : Rule) → window_rule_of x.head m ≡ Some r → is_allowing r ≡ true
-    → whole_of x m ≡ x.bytes ++ body_whole x.chunked m
+pub whole-allowed : (x : Response) (m : List ℕ) (r : Rule) → window_rule_of x.head m ≡ Some r → is_allowing r ≡ true
+    → whole_output x m ≡ x.bytes ++ whole_body x.chunked m
 whole-allowed x m r rule allows = whole-decided x m r rule ∙ rw allows refl
 
-pub whole-blocked : (x : Exchange) (m : List ℕ) (r : Rule) → window_rule_of x.head m ≡ Some r → is_allowing r ≡ false
-    → whole_of x m ≡ reply_of r
+pub whole-blocked : (x : Response) (m : List ℕ) (r : Rule) → window_rule_of x.head m ≡ Some r → is_allowing r ≡ false
+    → whole_output x m ≡ reply_of r
 whole-blocked x m r rule blocks = whole-decided x m r rule ∙ rw blocks refl
 
-pub front-whole_now : (x : Exchange) (m : List ℕ) → is_some (window_rule_of x.head m) ≡ true → IsPrefix (front_of x m) (whole_of x m)
+pub front-whole_now : (x : Response) (m : List ℕ) → is_some (window_rule_of x.head m) ≡ true → IsPrefix (output_so_far x m) (whole_output x m)
 front-whole_now x m decided = by (is_sent x.head m) refl
   where
     whole : (o : Option Rule) → window_rule_of x.head m ≡ o → is_some o ≡ true → is_sent x.head m ≡ true
-        → IsPrefix (front_of x m) (whole_of x m)
+        → IsPrefix (output_so_far x m) (whole_output x m)
     whole None rule some sent = absurd (grind (arith, some))
     whole (Some r) rule some sent =
-        rw (front-sent x m sent, whole-allowed x m r rule (sent-allows x.head m r sent rule), whole-is x.chunked m)
-        (IsPrefix-after x.bytes (body_front x.chunked m) (body_front x.chunked m ++ end_of x.chunked (kept_of x.chunked m))
-        (IsPrefix-append (body_front x.chunked m) (end_of x.chunked (kept_of x.chunked m))))
+        rw (so_far-sent x m sent, whole-allowed x m r rule (sent-allows x.head m r sent rule), whole-is x.chunked m)
+        (IsPrefix-after x.bytes (body_so_far x.chunked m) (body_so_far x.chunked m ++ end_of x.chunked (kept_of x.chunked m))
+        (IsPrefix-append (body_so_far x.chunked m) (end_of x.chunked (kept_of x.chunked m))))
 
-    by : (b : Bool) → is_sent x.head m ≡ b → IsPrefix (front_of x m) (whole_of x m)
-    by false unsent = rw (front-unsent x m unsent) (IsPrefix-none (whole_of x m))
+    by : (b : Bool) → is_sent x.head m ≡ b → IsPrefix (output_so_far x m) (whole_output x m)
+    by false unsent = rw (so_far-unsent x m unsent) (IsPrefix-none (whole_output x m))
     by true sent = whole (window_rule_of x.head m) refl decided sent
 
 -- how much goes out
@@ -79,8 +79,8 @@ full-length (suc n) a fits =
       full-length n (drop 1024 a) others,
     )
 
-body-length : (chunked : Bool) (m : List ℕ) → length (body_front chunked m) ≤ 2 * length m
-unfolding body_front chunk_size
+body-length : (chunked : Bool) (m : List ℕ) → length (body_so_far chunked m) ≤ 2 * length m
+unfolding body_so_far chunk_size
 body-length true m = omega (arith, full-length (count_full m) m (full_fits m), full_fits m)
 body-length false m = omega arith
 
@@ -88,8 +88,8 @@ rest-short_chunk : (rest : List ℕ) → length rest < 1024 → length (rest_chu
 rest-short_chunk [] short = omega arith
 rest-short_chunk (b ∷ rest) short = chunk-length (b ∷ rest) (omega arith)
 
-whole-length : (chunked : Bool) (m : List ℕ) → length (body_whole chunked m) ≤ 2 * length m + 128
-unfolding body_whole chunk_size
+whole-length : (chunked : Bool) (m : List ℕ) → length (whole_body chunked m) ≤ 2 * length m + 128
+unfolding whole_body chunk_size
 whole-length true m =
     omega (
       arith,
@@ -102,25 +102,25 @@ whole-length true m =
     )
 whole-length false m = omega arith
 
-pub front-length : (x : Exchange) (m : List ℕ) → length (front_of x m) ≤ length x.bytes + 2 * length m
-front-length x m = by (is_sent x.head m) refl
+pub so_far-length : (x : Response) (m : List ℕ) → length (output_so_far x m) ≤ length x.bytes + 2 * length m
+so_far-length x m = by (is_sent x.head m) refl
   where
-    by : (b : Bool) → is_sent x.head m ≡ b → length (front_of x m) ≤ length x.bytes + 2 * length m
-    by false unsent = rw (front-unsent x m unsent) (omega arith)
+    by : (b : Bool) → is_sent x.head m ≡ b → length (output_so_far x m) ≤ length x.bytes + 2 * length m
+    by false unsent = rw (so_far-unsent x m unsent) (omega arith)
     by true sent =
-        rw (front-sent x m sent) (omega (arith, length-append x.bytes (body_front x.chunked m), body-length x.chunked m))
+        rw (so_far-sent x m sent) (omega (arith, length-append x.bytes (body_so_far x.chunked m), body-length x.chunked m))
 
-pub output-length : (x : Exchange) (m : List ℕ) → length (whole_of x m) ≤ length x.bytes + 2 * length m + 128
+pub output-length : (x : Response) (m : List ℕ) → length (whole_output x m) ≤ length x.bytes + 2 * length m + 128
 output-length x m = by (window_rule_of x.head m) refl
   where
     decided-length : (r : Rule) (b : Bool) → is_allowing r ≡ b → length (decided_by x m r) ≤ length x.bytes + 2 * length m + 128
     decided-length r true allows =
-        rw allows (omega (arith, length-append x.bytes (body_whole x.chunked m), whole-length x.chunked m))
+        rw allows (omega (arith, length-append x.bytes (whole_body x.chunked m), whole-length x.chunked m))
     decided-length r false blocks = rw blocks (omega (arith, reply-short r))
 
     none-length : (o : Option Rule) → o ≡ None → length (decided x m o) ≤ length x.bytes + 2 * length m + 128
     none-length o none = rw none (omega arith)
 
-    by : (o : Option Rule) → window_rule_of x.head m ≡ o → length (whole_of x m) ≤ length x.bytes + 2 * length m + 128
-    by None rule = unfold whole_of in none-length (window_rule_of x.head m) rule
+    by : (o : Option Rule) → window_rule_of x.head m ≡ o → length (whole_output x m) ≤ length x.bytes + 2 * length m + 128
+    by None rule = unfold whole_output in none-length (window_rule_of x.head m) rule
     by (Some r) rule = rw (whole-decided x m r rule) (decided-length r (is_allowing r) refl)

@@ -9,85 +9,85 @@ use Rattle.response_rules.proofs.SettledLemmas.{sent-allows}
 use Rattle.body_filter.specs.declared.filtering.Filter.{Filter}
 use Rattle.body_filter.specs.declared.phases.Phase.{Phase}
 use Rattle.body_filter.specs.declared.phases.Phase.TheVariants as phase
-use Rattle.body_filter.specs.Chunks.{body_front, kept_of}
-use Rattle.body_filter.specs.Writes.{put_of, kept_behind, end_of}
+use Rattle.body_filter.specs.Chunks.{body_so_far, kept_of}
+use Rattle.body_filter.specs.Writes.{put_of, kept_after, end_of}
 use Rattle.body_filter.specs.Reply.{reply_of}
-use Rattle.body_filter.specs.Exchanges.{Exchange, front_of, whole_of}
+use Rattle.body_filter.specs.Responses.{Response, output_so_far, whole_output}
 use Rattle.body_filter.specs.Reads.{Stands, ended_by}
 use Rattle.body_filter.proofs.WriteLemmas.{front-on, kept-on, front-none, released, released-kept, held-whole, whole-is}
-use Rattle.body_filter.proofs.FilterLemmas.{front-unsent, front-sent, given_up-unsent, given_up-blocks}
+use Rattle.body_filter.proofs.FilterLemmas.{so_far-unsent, so_far-sent, given_up-unsent, given_up-blocks}
 use Rattle.body_filter.proofs.LawLemmas.{whole-allowed, whole-blocked}
 
 -- at the head
-pub first-sent : (x : Exchange) → is_sent x.head [] ≡ true → x.bytes ≡ front_of x []
+pub first-sent : (x : Response) → is_sent x.head [] ≡ true → x.bytes ≡ output_so_far x []
 first-sent x sent =
-    sym (front-sent x [] sent ∙ (ap (λ t. x.bytes ++ t) (front-none x.chunked) ∙ append-nil x.bytes))
+    sym (so_far-sent x [] sent ∙ (ap (λ t. x.bytes ++ t) (front-none x.chunked) ∙ append-nil x.bytes))
 
 -- a body that was held, and goes out
-pub release-is : (x : Exchange) (m p : List ℕ) (chunked : Bool) (rest head held : List ℕ)
+pub release-is : (x : Response) (m p : List ℕ) (chunked : Bool) (rest head held : List ℕ)
     → chunked ≡ x.chunked → rest ≡ [] → head ≡ x.bytes → held ≡ m → is_sent x.head m ≡ false
     → is_sent x.head (m ++ p) ≡ true
-    → front_of x m ++ (head ++ (put_of chunked rest held ++ put_of chunked (kept_behind chunked rest held) p)) ≡ front_of x (m ++ p)
+    → output_so_far x m ++ (head ++ (put_of chunked rest held ++ put_of chunked (kept_after chunked rest held) p)) ≡ output_so_far x (m ++ p)
 release-is x m p chunked rest head held is none same all unsent sent =
-    rw (is, none, same, all, front-unsent x m unsent)
-    (ap (λ t. x.bytes ++ t) (released x.chunked m p) ∙ sym (front-sent x (m ++ p) sent))
+    rw (is, none, same, all, so_far-unsent x m unsent)
+    (ap (λ t. x.bytes ++ t) (released x.chunked m p) ∙ sym (so_far-sent x (m ++ p) sent))
 
-pub release-kept : (x : Exchange) (m p : List ℕ) (chunked : Bool) (rest held : List ℕ)
+pub release-kept : (x : Response) (m p : List ℕ) (chunked : Bool) (rest held : List ℕ)
     → chunked ≡ x.chunked → rest ≡ [] → held ≡ m
-    → kept_behind chunked (kept_behind chunked rest held) p ≡ kept_of x.chunked (m ++ p)
+    → kept_after chunked (kept_after chunked rest held) p ≡ kept_of x.chunked (m ++ p)
 release-kept x m p chunked rest held is none all = rw (is, none, all) (released-kept x.chunked m p)
 
 -- one that goes out already
-pub sending-is : (x : Exchange) (m p : List ℕ) (chunked : Bool) (rest : List ℕ)
+pub sending-is : (x : Response) (m p : List ℕ) (chunked : Bool) (rest : List ℕ)
     → chunked ≡ x.chunked → rest ≡ kept_of x.chunked m → is_sent x.head m ≡ true
-    → is_sent x.head (m ++ p) ≡ true → front_of x m ++ put_of chunked rest p ≡ front_of x (m ++ p)
+    → is_sent x.head (m ++ p) ≡ true → output_so_far x m ++ put_of chunked rest p ≡ output_so_far x (m ++ p)
 sending-is x m p chunked rest is kept sent sent' =
-    rw (is, kept, front-sent x m sent)
-    (append_assoc x.bytes (body_front x.chunked m) (put_of x.chunked (kept_of x.chunked m) p)
-    ∙ (ap (λ t. x.bytes ++ t) (sym (front-on x.chunked m p)) ∙ sym (front-sent x (m ++ p) sent')))
+    rw (is, kept, so_far-sent x m sent)
+    (append_assoc x.bytes (body_so_far x.chunked m) (put_of x.chunked (kept_of x.chunked m) p)
+    ∙ (ap (λ t. x.bytes ++ t) (sym (front-on x.chunked m p)) ∙ sym (so_far-sent x (m ++ p) sent')))
 
-pub sending-kept : (x : Exchange) (m p : List ℕ) (chunked : Bool) (rest : List ℕ)
-    → chunked ≡ x.chunked → rest ≡ kept_of x.chunked m → kept_behind chunked rest p ≡ kept_of x.chunked (m ++ p)
+pub sending-kept : (x : Response) (m p : List ℕ) (chunked : Bool) (rest : List ℕ)
+    → chunked ≡ x.chunked → rest ≡ kept_of x.chunked m → kept_after chunked rest p ≡ kept_of x.chunked (m ++ p)
 sending-kept x m p chunked rest is kept = rw (is, kept) (sym (kept-on x.chunked m p))
 
 -- the end of one that goes out
-ends_sent : (x : Exchange) (m : List ℕ) (v : Verdict) (chunked : Bool) (rest : List ℕ)
+ends_sent : (x : Response) (m : List ℕ) (v : Verdict) (chunked : Bool) (rest : List ℕ)
     → chunked ≡ x.chunked → rest ≡ kept_of x.chunked m → is_sent x.head m ≡ true
-    → IsVerdict x.head m v → front_of x m ++ end_of chunked rest ≡ whole_of x m
+    → IsVerdict x.head m v → output_so_far x m ++ end_of chunked rest ≡ whole_output x m
 ends_sent x m v chunked rest is kept sent verdict =
-    rw (is, kept, front-sent x m sent)
-    (append_assoc x.bytes (body_front x.chunked m) (end_of x.chunked (kept_of x.chunked m))
+    rw (is, kept, so_far-sent x m sent)
+    (append_assoc x.bytes (body_so_far x.chunked m) (end_of x.chunked (kept_of x.chunked m))
     ∙ (ap (λ t. x.bytes ++ t) (sym (whole-is x.chunked m))
     ∙ sym (whole-allowed x m v.rule verdict.rule (sent-allows x.head m v.rule sent verdict.rule))))
 
 -- of one that was held to its end
-ends_held : (x : Exchange) (m : List ℕ) (v : Verdict) (chunked : Bool) (rest head held : List ℕ)
+ends_held : (x : Response) (m : List ℕ) (v : Verdict) (chunked : Bool) (rest head held : List ℕ)
     → chunked ≡ x.chunked → rest ≡ [] → head ≡ x.bytes → held ≡ m → IsVerdict x.head m v
-    → (if v.allow then head ++ (put_of chunked rest held ++ end_of chunked (kept_behind chunked rest held)) else reply_of v.rule)
-    ≡ whole_of x m
+    → (if v.allow then head ++ (put_of chunked rest held ++ end_of chunked (kept_after chunked rest held)) else reply_of v.rule)
+    ≡ whole_output x m
 ends_held x m v chunked rest head held is none same all verdict = by v.allow (sym verdict.allow)
   where
     by : (b : Bool) → is_allowing v.rule ≡ b
-        → (if b then head ++ (put_of chunked rest held ++ end_of chunked (kept_behind chunked rest held)) else reply_of v.rule)
-        ≡ whole_of x m
+        → (if b then head ++ (put_of chunked rest held ++ end_of chunked (kept_after chunked rest held)) else reply_of v.rule)
+        ≡ whole_output x m
     by true allows =
         rw (is, none, same, all)
         (ap (λ t. x.bytes ++ t) (held-whole x.chunked m) ∙ sym (whole-allowed x m v.rule verdict.rule allows))
     by false blocks = sym (whole-blocked x m v.rule verdict.rule blocks)
 
-pub ended-is : (p : Phase) (f g : Filter) (x : Exchange) (m : List ℕ) (v : Verdict) → Stands p f x m
+pub ended-is : (p : Phase) (f g : Filter) (x : Response) (m : List ℕ) (v : Verdict) → Stands p f x m
     → IsVerdict x.head m v → g.writer ≡ f.writer → g.head ≡ f.head → g.held ≡ f.held
-    → front_of x m ++ ended_by p g v ≡ whole_of x m
+    → output_so_far x m ++ ended_by p g v ≡ whole_output x m
 ended-is phase.Idle f g x m v stands verdict writer head held = absurd stands
 ended-is phase.Holding f g x m v stands verdict writer head held =
-    rw (front-unsent x m stands.unsent)
+    rw (so_far-unsent x m stands.unsent)
     (ends_held x m v g.writer.chunked g.writer.rest.items g.head.items g.held.items
     (ap (λ w. w.chunked) writer ∙ stands.chunked) (ap (λ w. w.rest.items) writer ∙ stands.rest)
     (ap (λ t. t.items) head ∙ stands.head) (ap (λ t. t.items) held ∙ stands.held) verdict)
-ended-is phase.Sending f g x m v stands verdict writer head held =
+ended-is phase.Passing f g x m v stands verdict writer head held =
     ends_sent x m v g.writer.chunked g.writer.rest.items
     (ap (λ w. w.chunked) writer ∙ stands.chunked) (ap (λ w. w.rest.items) writer ∙ stands.rest)
     stands.sent verdict
 ended-is phase.Dropping f g x m v stands verdict writer head held =
-    rw (front-unsent x m (given_up-unsent x.head m stands.over))
+    rw (so_far-unsent x m (given_up-unsent x.head m stands.over))
     (sym (whole-blocked x m v.rule verdict.rule (given_up-blocks x.head m v.rule stands.over verdict.rule)))

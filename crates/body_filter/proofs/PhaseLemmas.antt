@@ -9,12 +9,12 @@ use Rattle.body_filter.specs.declared.filtering.Filter.{Filter}
 use Rattle.body_filter.specs.declared.judging.Judgement.TheVariants as judgement
 use Rattle.body_filter.specs.declared.phases.Phase.{Phase}
 use Rattle.body_filter.specs.declared.phases.Phase.TheVariants as phase
-use Rattle.body_filter.specs.Exchanges.{Exchange, is_given_up}
+use Rattle.body_filter.specs.Responses.{Response, is_given_up}
 use Rattle.body_filter.specs.Judged.{Decides, judged}
-use Rattle.body_filter.specs.Reads.{HasRead, IsSpent, IsMadeFor, Holds, Sends, Drops, Stands, limit_of}
+use Rattle.body_filter.specs.Reads.{HasRead, IsSpent, IsMadeFor, Holds, PassesOn, Drops, Stands, limit_of}
 
 -- the phases
-pub reads-holding : (f : Filter) (x : Exchange) (m : List ℕ) → x.head.limit ≡ limit_of f → Decides f.decider x.head m
+pub reads-holding : (f : Filter) (x : Response) (m : List ℕ) → x.head.limit ≡ limit_of f → Decides f.decider x.head m
     → f.phase ≡ phase.Holding → Holds f x m → HasRead f x m
 reads-holding f x m limit decides is stands = record {
   limit = limit;
@@ -22,15 +22,15 @@ reads-holding f x m limit decides is stands = record {
   stands = let P : Phase → Type 0 = λ p. Stands p f x m in subst P (sym is) stands;
 }
 
-pub reads-sending : (f : Filter) (x : Exchange) (m : List ℕ) → x.head.limit ≡ limit_of f → Decides f.decider x.head m
-    → f.phase ≡ phase.Sending → Sends f x m → HasRead f x m
-reads-sending f x m limit decides is stands = record {
+pub reads-passing : (f : Filter) (x : Response) (m : List ℕ) → x.head.limit ≡ limit_of f → Decides f.decider x.head m
+    → f.phase ≡ phase.Passing → PassesOn f x m → HasRead f x m
+reads-passing f x m limit decides is stands = record {
   limit = limit;
   decides = decides;
   stands = let P : Phase → Type 0 = λ p. Stands p f x m in subst P (sym is) stands;
 }
 
-pub reads-dropping : (f : Filter) (x : Exchange) (m : List ℕ) → x.head.limit ≡ limit_of f → Decides f.decider x.head m
+pub reads-dropping : (f : Filter) (x : Response) (m : List ℕ) → x.head.limit ≡ limit_of f → Decides f.decider x.head m
     → f.phase ≡ phase.Dropping → Drops x m → HasRead f x m
 reads-dropping f x m limit decides is stands = record {
   limit = limit;
@@ -38,13 +38,13 @@ reads-dropping f x m limit decides is stands = record {
   stands = let P : Phase → Type 0 = λ p. Stands p f x m in subst P (sym is) stands;
 }
 
-pub holds-of : (f : Filter) (x : Exchange) (m : List ℕ) → f.phase ≡ phase.Holding → HasRead f x m → Holds f x m
+pub holds-of : (f : Filter) (x : Response) (m : List ℕ) → f.phase ≡ phase.Holding → HasRead f x m → Holds f x m
 holds-of f x m is r = let P : Phase → Type 0 = λ p. Stands p f x m in subst P is r.stands
 
-pub sends-of : (f : Filter) (x : Exchange) (m : List ℕ) → f.phase ≡ phase.Sending → HasRead f x m → Sends f x m
-sends-of f x m is r = let P : Phase → Type 0 = λ p. Stands p f x m in subst P is r.stands
+pub passes-of : (f : Filter) (x : Response) (m : List ℕ) → f.phase ≡ phase.Passing → HasRead f x m → PassesOn f x m
+passes-of f x m is r = let P : Phase → Type 0 = λ p. Stands p f x m in subst P is r.stands
 
-pub drops-of : (f : Filter) (x : Exchange) (m : List ℕ) → f.phase ≡ phase.Dropping → HasRead f x m → Drops x m
+pub drops-of : (f : Filter) (x : Response) (m : List ℕ) → f.phase ≡ phase.Dropping → HasRead f x m → Drops x m
 drops-of f x m is r = let P : Phase → Type 0 = λ p. Stands p f x m in subst P is r.stands
 
 pub idle-spent : (f : Filter) → f.phase ≡ phase.Idle → IsSpent f

@@ -38,12 +38,12 @@ abbrev pub last_chunk : List ℕ
 last_chunk = 48 ∷ (crlf ++ crlf)
 
 -- what goes out of a body of which these bytes have come
-unfoldable pub body_front : (chunked : Bool) → List ℕ → List ℕ
-body_front chunked body = if chunked then full_chunks (count_full body) body else body
+unfoldable pub body_so_far : (chunked : Bool) → List ℕ → List ℕ
+body_so_far chunked body = if chunked then full_chunks (count_full body) body else body
 
 -- what goes out of a whole body
-unfoldable pub body_whole : (chunked : Bool) → List ℕ → List ℕ
-body_whole chunked body =
+unfoldable pub whole_body : (chunked : Bool) → List ℕ → List ℕ
+whole_body chunked body =
     if chunked
     then full_chunks (count_full body) body ++ (rest_chunk (rest_of body) ++ last_chunk)
     else body

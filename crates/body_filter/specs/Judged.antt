@@ -6,7 +6,7 @@ use Rattle.response_rules.specs.Reads.{HasRead as DeciderHasRead, CanFinish}
 use Rattle.body_filter.specs.declared.judging.Judgement.{Judgement}
 use Rattle.body_filter.specs.declared.judging.Judgement.TheVariants as judgement
 
--- there is a decider, and it has read this front of the body
+-- there is a decider, and it has read this prefix of the body
 abbrev pub Decides : Option Decider → Head → List ℕ → Type 0
 Decides None h m = ⊥
 Decides (Some decider) h m = DeciderHasRead decider h m
@@ -16,6 +16,6 @@ abbrev pub CanDecide : Option Decider → Type 0
 CanDecide None = ⊥
 CanDecide (Some decider) = CanFinish decider
 
--- the judgement on a front of a body
+-- the judgement on a prefix of a body
 abbrev pub judged : (sent hopeless : Bool) → Judgement
 judged sent hopeless = if sent then judgement.Allowed else if hopeless then judgement.Blocked else judgement.Open

@@ -1,6 +1,6 @@
 pub mod Chunks
 pub mod Reply
-pub mod Exchanges
+pub mod Responses
 pub mod Writes
 pub mod Judged
 pub mod Reads

@@ -10,9 +10,9 @@ use Rattle.body_filter.specs.declared.filtering.Filter.{Filter}
 use Rattle.body_filter.specs.declared.phases.Phase.{Phase}
 use Rattle.body_filter.specs.declared.phases.Phase.TheVariants as phase
 use Rattle.body_filter.specs.Chunks.{kept_of}
-use Rattle.body_filter.specs.Exchanges.{Exchange, is_given_up}
+use Rattle.body_filter.specs.Responses.{Response, is_given_up}
 use Rattle.body_filter.specs.Reply.{reply_of}
-use Rattle.body_filter.specs.Writes.{put_of, kept_behind, end_of}
+use Rattle.body_filter.specs.Writes.{put_of, kept_after, end_of}
 use Rattle.body_filter.specs.Judged.{Decides}
 
 -- how many bytes of a body it holds back at most
@@ -22,7 +22,7 @@ limit_of f = f.limit
 abbrev pub held_by : Phase → Filter → ℕ
 held_by phase.Idle f = 0
 held_by phase.Holding f = length f.held.items
-held_by phase.Sending f = length f.writer.rest.items
+held_by phase.Passing f = length f.writer.rest.items
 held_by phase.Dropping f = 0
 
 -- how many it holds back now
@@ -30,7 +30,7 @@ unfoldable pub held_in : Filter → ℕ
 held_in f = held_by f.phase f
 
 -- nothing has gone out, and the body is kept
-pub record Holds (f : Filter) (x : Exchange) (m : List ℕ) : Type 0 where
+pub record Holds (f : Filter) (x : Response) (m : List ℕ) : Type 0 where
   pub unsent : is_sent x.head m ≡ false
   pub hopeful : is_given_up x.head m ≡ false
   pub head : f.head.items ≡ x.bytes
@@ -39,44 +39,44 @@ pub record Holds (f : Filter) (x : Exchange) (m : List ℕ) : Type 0 where
   pub rest : f.writer.rest.items ≡ []
 
 -- the body goes out as it comes
-pub record Sends (f : Filter) (x : Exchange) (m : List ℕ) : Type 0 where
+pub record PassesOn (f : Filter) (x : Response) (m : List ℕ) : Type 0 where
   pub sent : is_sent x.head m ≡ true
   pub chunked : f.writer.chunked ≡ x.chunked
   pub rest : f.writer.rest.items ≡ kept_of x.chunked m
 
 -- no byte of it will
-pub record Drops (x : Exchange) (m : List ℕ) : Type 0 where
+pub record Drops (x : Response) (m : List ℕ) : Type 0 where
   pub over : is_given_up x.head m ≡ true
 
 -- what its fields are in each phase
-abbrev pub Stands : Phase → Filter → Exchange → List ℕ → Type 0
+abbrev pub Stands : Phase → Filter → Response → List ℕ → Type 0
 Stands phase.Idle f x m = ⊥
 Stands phase.Holding f x m = Holds f x m
-Stands phase.Sending f x m = Sends f x m
+Stands phase.Passing f x m = PassesOn f x m
 Stands phase.Dropping f x m = Drops x m
 
 -- it has read this prefix of the body of that response, and put what goes out of the response then
-pub record HasRead (f : Filter) (x : Exchange) (m : List ℕ) : Type 0 where
+pub record HasRead (f : Filter) (x : Response) (m : List ℕ) : Type 0 where
   pub limit : x.head.limit ≡ limit_of f
   pub decides : Decides f.decider x.head m
   pub stands : Stands f.phase f x m
 
 -- it reads a response
 pub record CanFeed (f : Filter) : Type 0 where
-  pub x : Exchange
+  pub x : Response
   pub m : List ℕ
   pub reads : HasRead f x m
 
 -- it reads one that a rule of the head or the window decides, if its body ends here
 pub record CanEnd (f : Filter) : Type 0 where
-  pub x : Exchange
+  pub x : Response
   pub m : List ℕ
   pub reads : HasRead f x m
   pub decided : is_some (window_rule_of x.head m) ≡ true
 
 -- it reads none
 abbrev pub IsSpent : Filter → Type 0
-IsSpent f = (x : Exchange) (m : List ℕ) → HasRead f x m → ⊥
+IsSpent f = (x : Response) (m : List ℕ) → HasRead f x m → ⊥
 
 -- the decider is new, and made for a response that is read for a script up to that limit
 pub record IsMadeFor (decider : Decider) (most : ℕ) : Type 0 where
@@ -90,7 +90,7 @@ ended_by phase.Idle f verdict = reply_of verdict.rule
 ended_by phase.Holding f verdict =
     if verdict.allow
     then f.head.items ++ (put_of f.writer.chunked f.writer.rest.items f.held.items
-    ++ end_of f.writer.chunked (kept_behind f.writer.chunked f.writer.rest.items f.held.items))
+    ++ end_of f.writer.chunked (kept_after f.writer.chunked f.writer.rest.items f.held.items))
     else reply_of verdict.rule
-ended_by phase.Sending f verdict = end_of f.writer.chunked f.writer.rest.items
+ended_by phase.Passing f verdict = end_of f.writer.chunked f.writer.rest.items
 ended_by phase.Dropping f verdict = reply_of verdict.rule

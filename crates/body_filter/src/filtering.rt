@@ -37,7 +37,7 @@ impl Filter {
     ghost use Rattle.response_rules.specs.Heads.{Head};
     ghost use Rattle.response_rules.specs.Tables.{window_rule_of};
     ghost use Rattle.response_rules.specs.Reads.{HasRead as DeciderHasRead, IsVerdict};
-    ghost use Rattle.body_filter.specs.Exchanges.{Exchange, exchange_of, front_of, whole_of, held_of};
+    ghost use Rattle.body_filter.specs.Responses.{Response, response_of, output_so_far, whole_output, held_of};
     ghost use Rattle.body_filter.specs.Reads.{HasRead, CanFeed, CanEnd, IsSpent, IsMadeFor, limit_of, held_in};
 
     /// A filter that holds back at most `limit` bytes of a body, from 1,024 to 268,435,456. It reserves
@@ -69,7 +69,7 @@ impl Filter {
     /// head as it was read, at most 65,536 bytes; and whether its body came in chunks. What was held of
     /// another is dropped. Where the head alone allows the response, the head goes out.
     ///
-    /// Behind a [`WriteFault`] the filter takes only `begin`.
+    /// After a [`WriteFault`] the filter takes only `begin`.
     pub fn begin<O: Sink>(
         &mut self,
         decider: Decider,
@@ -81,8 +81,8 @@ impl Filter {
         requires made { IsMadeFor decider (limit_of self.old) }
         ensures delivers { (h : Head) → DeciderHasRead decider h []
             → Delivers result (O.told sink.old) (O.told sink.new)
-            [] (front_of (exchange_of h head.now chunked) [])
-            (λ _. HasRead self.new (exchange_of h head.now chunked) []) }
+            [] (output_so_far (response_of h head.now chunked) [])
+            (λ _. HasRead self.new (response_of h head.now chunked) []) }
         ensures spent { OnErr result (IsSpent self.new) }
         ensures calls { Calls O.Sink result sink.old sink.new }
         ensures limit { limit_of self.new ≡ limit_of self.old }
@@ -92,7 +92,7 @@ impl Filter {
         self.writer.start(chunked);
         match judgement {
             Judgement::Allowed => {
-                self.phase = Phase::Sending;
+                self.phase = Phase::Passing;
                 idle_at_fault(&mut self.phase, put_bytes(head, sink))
             }
             Judgement::Blocked => {
@@ -109,20 +109,20 @@ impl Filter {
         }
     }
 
-    /// Reads the next piece of the body, behind a `begin` that answered Ok. Where a rule that allows is known
+    /// Reads the next piece of the body, after a `begin` that answered Ok. Where a rule that allows is known
     /// then, all that was held and the piece go out.
     pub fn feed<O: Sink>(&mut self, piece: &[u8], sink: &mut O) -> Result<(), WriteFault>
         requires { CanFeed self.old }
-        ensures delivers { (x : Exchange) (m : List ℕ) → HasRead self.old x m
+        ensures delivers { (x : Response) (m : List ℕ) → HasRead self.old x m
             → Delivers result (O.told sink.old) (O.told sink.new)
-            (front_of x m) (front_of x (m ++ piece.now)) (λ _. HasRead self.new x (m ++ piece.now)) }
+            (output_so_far x m) (output_so_far x (m ++ piece.now)) (λ _. HasRead self.new x (m ++ piece.now)) }
         ensures spent { OnErr result (IsSpent self.new) }
         ensures calls { Calls O.Sink result sink.old sink.new }
         ensures limit { limit_of self.new ≡ limit_of self.old }
     {
         match self.phase {
             Phase::Holding => self.feed_held(piece, sink),
-            Phase::Sending => self.feed_sent(piece, sink),
+            Phase::Passing => self.feed_sent(piece, sink),
             Phase::Dropping => {
                 let _judgement = read_on(&mut self.decider, piece);
                 Ok(())
@@ -136,9 +136,9 @@ impl Filter {
     /// The filter then takes only `begin`.
     pub fn end<O: Sink>(&mut self, sink: &mut O) -> Result<Verdict, WriteFault>
         requires { CanEnd self.old }
-        ensures delivers { (x : Exchange) (m : List ℕ) → HasRead self.old x m
+        ensures delivers { (x : Response) (m : List ℕ) → HasRead self.old x m
             → Delivers result (O.told sink.old) (O.told sink.new)
-            (front_of x m) (whole_of x m) (λ v. IsVerdict x.head m v) }
+            (output_so_far x m) (whole_output x m) (λ v. IsVerdict x.head m v) }
         ensures spent { IsSpent self.new }
         ensures empty { OnOk result (held_in self.new ≡ 0) }
         ensures calls { Calls O.Sink result sink.old sink.new }
@@ -154,12 +154,12 @@ impl Filter {
     /// How many bytes of the body are held back.
     pub fn held(&self) -> usize
         ensures value { result ≡ held_in self.now }
-        ensures exact { (x : Exchange) (m : List ℕ) → HasRead self.now x m → result ≡ held_of x m }
+        ensures exact { (x : Response) (m : List ℕ) → HasRead self.now x m → result ≡ held_of x m }
         ensures bounded { result ≤ limit_of self.now }
     {
         match self.phase {
             Phase::Holding => self.held.len(),
-            Phase::Sending => self.writer.kept(),
+            Phase::Passing => self.writer.kept(),
             Phase::Dropping | Phase::Idle => 0,
         }
     }
@@ -167,7 +167,7 @@ impl Filter {
     /// The rule of the head or the window that decides if the body ends here; `None` exactly where none
     /// holds.
     pub fn window_rule(&self) -> Option<Rule>
-        ensures { (x : Exchange) (m : List ℕ) → HasRead self.now x m → result ≡ window_rule_of x.head m }
+        ensures { (x : Response) (m : List ℕ) → HasRead self.now x m → result ≡ window_rule_of x.head m }
     {
         match &self.decider {
             Some(decider) => decider.window_rule(),
@@ -180,16 +180,16 @@ impl Filter {
     ghost use Rattle.std.specs.Prelude.{◌≡◌, ℕ, ◌++◌, List, OnErr};
     ghost use Rattle.orb_io.specs.Told.{Delivers};
     ghost use Rattle.orb_io.specs.Calls.{Calls, Puts};
-    ghost use Rattle.body_filter.specs.Exchanges.{Exchange, front_of};
+    ghost use Rattle.body_filter.specs.Responses.{Response, output_so_far};
     ghost use Rattle.body_filter.specs.Reads.{HasRead, CanFeed, limit_of, ended_by};
 
     /// Reads a piece of a body that is held: keeps it, or lets all go, or drops all.
     fn feed_held<O: Sink>(&mut self, piece: &[u8], sink: &mut O) -> Result<(), WriteFault>
         requires can { CanFeed self.old }
         requires holding { self.old.phase ≡ Phase.Holding }
-        ensures delivers { (x : Exchange) (m : List ℕ) → HasRead self.old x m
+        ensures delivers { (x : Response) (m : List ℕ) → HasRead self.old x m
             → Delivers result (O.told sink.old) (O.told sink.new)
-            (front_of x m) (front_of x (m ++ piece.now)) (λ _. HasRead self.new x (m ++ piece.now)) }
+            (output_so_far x m) (output_so_far x (m ++ piece.now)) (λ _. HasRead self.new x (m ++ piece.now)) }
         ensures idle { OnErr result (self.new.phase ≡ Phase.Idle) }
         ensures calls { Calls O.Sink result sink.old sink.new }
         ensures limit { limit_of self.new ≡ limit_of self.old }
@@ -198,7 +198,7 @@ impl Filter {
         let judgement = within(read_on(&mut self.decider, piece), fits);
         match judgement {
             Judgement::Allowed => {
-                self.phase = Phase::Sending;
+                self.phase = Phase::Passing;
                 let put = release(&mut self.writer, &self.head, &self.held, piece, sink);
                 idle_at_fault(&mut self.phase, put)
             }
@@ -216,10 +216,10 @@ impl Filter {
     /// Reads a piece of a body that goes out.
     fn feed_sent<O: Sink>(&mut self, piece: &[u8], sink: &mut O) -> Result<(), WriteFault>
         requires can { CanFeed self.old }
-        requires sending { self.old.phase ≡ Phase.Sending }
-        ensures delivers { (x : Exchange) (m : List ℕ) → HasRead self.old x m
+        requires sending { self.old.phase ≡ Phase.Passing }
+        ensures delivers { (x : Response) (m : List ℕ) → HasRead self.old x m
             → Delivers result (O.told sink.old) (O.told sink.new)
-            (front_of x m) (front_of x (m ++ piece.now)) (λ _. HasRead self.new x (m ++ piece.now)) }
+            (output_so_far x m) (output_so_far x (m ++ piece.now)) (λ _. HasRead self.new x (m ++ piece.now)) }
         ensures idle { OnErr result (self.new.phase ≡ Phase.Idle) }
         ensures calls { Calls O.Sink result sink.old sink.new }
         ensures limit { limit_of self.new ≡ limit_of self.old }
@@ -235,7 +235,7 @@ impl Filter {
         ensures limit { limit_of self.new ≡ limit_of self.old }
     {
         match self.phase {
-            Phase::Sending => self.writer.finish(sink),
+            Phase::Passing => self.writer.finish(sink),
             Phase::Holding => {
                 if verdict.allow {
                     put_whole(&mut self.writer, &self.head, &self.held, sink)

@@ -6,33 +6,33 @@ ghost use Rattle.response_rules.specs.Rules.{is_allowing};
 ghost use Rattle.response_rules.specs.Heads.{Head};
 ghost use Rattle.response_rules.specs.Tables.{window_rule_of};
 ghost use Rattle.response_rules.specs.Settled.{is_hopeless, is_in_text};
-ghost use Rattle.body_filter.specs.Exchanges.{Exchange, front_of, whole_of, is_given_up, held_of};
+ghost use Rattle.body_filter.specs.Responses.{Response, output_so_far, whole_output, is_given_up, held_of};
 
-/// Law: what goes out of a front of a body is a front of what goes out of each longer one, and of what
+/// Law: what goes out of a prefix of a body is a prefix of what goes out of each longer one, and of what
 /// goes out of each whole body that begins so and that a rule of the head or the window decides.
-pub fn front_grows()
-    ensures front { (x : Exchange) (m more : List ℕ) → IsPrefix (front_of x m) (front_of x (m ++ more)) }
-    ensures whole { (x : Exchange) (m more : List ℕ) → is_some (window_rule_of x.head (m ++ more)) ≡ true
-        → IsPrefix (front_of x m) (whole_of x (m ++ more)) }
+pub fn output_grows()
+    ensures front { (x : Response) (m more : List ℕ) → IsPrefix (output_so_far x m) (output_so_far x (m ++ more)) }
+    ensures whole { (x : Response) (m more : List ℕ) → is_some (window_rule_of x.head (m ++ more)) ≡ true
+        → IsPrefix (output_so_far x m) (whole_output x (m ++ more)) }
 {}
 
 /// Law: what goes out is at most the head and twice the body, and 128 bytes more at the end.
 pub fn output_is_short()
-    ensures front { (x : Exchange) (m : List ℕ) → length (front_of x m) ≤ length x.bytes + 2 * length m }
-    ensures whole { (x : Exchange) (m : List ℕ) → length (whole_of x m) ≤ length x.bytes + 2 * length m + 128 }
+    ensures front { (x : Response) (m : List ℕ) → length (output_so_far x m) ≤ length x.bytes + 2 * length m }
+    ensures whole { (x : Response) (m : List ℕ) → length (whole_output x m) ≤ length x.bytes + 2 * length m + 128 }
 {}
 
 /// Law: of a body that is read as text nothing goes out before its end.
 pub fn held_text_is_silent()
-    ensures { (x : Exchange) (m : List ℕ) → is_in_text x.head m ≡ true → front_of x m ≡ [] }
+    ensures { (x : Response) (m : List ℕ) → is_in_text x.head m ≡ true → output_so_far x m ≡ [] }
 {}
 
 /// Law: at most 1,024 bytes are held of a body that isn't read as text, at most the limit of one that is, and
 /// none of a response that is hopeless.
 pub fn held_is_bounded()
-    ensures window { (x : Exchange) (m : List ℕ) → is_in_text x.head m ≡ false → held_of x m ≤ 1024 }
-    ensures limit { (x : Exchange) (m : List ℕ) → 1024 ≤ x.head.limit → held_of x m ≤ x.head.limit }
-    ensures hopeless { (x : Exchange) (m : List ℕ) → is_hopeless x.head m ≡ true → held_of x m ≡ 0 }
+    ensures window { (x : Response) (m : List ℕ) → is_in_text x.head m ≡ false → held_of x m ≤ 1024 }
+    ensures limit { (x : Response) (m : List ℕ) → 1024 ≤ x.head.limit → held_of x m ≤ x.head.limit }
+    ensures hopeless { (x : Response) (m : List ℕ) → is_hopeless x.head m ≡ true → held_of x m ≡ 0 }
 {}
 
 /// Law: a response that is given up is so for good, and no rule of the head or the window allows it.

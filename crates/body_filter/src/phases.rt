@@ -11,7 +11,7 @@ pub(crate) enum Phase {
     /// It is kept, and so is the head.
     Holding,
     /// It goes out.
-    Sending,
+    Passing,
     /// It is dropped: the response is given up.
     Dropping,
 }

@@ -66,14 +66,14 @@ fn feed_in_pieces(
 {
     let mut rest = body;
     'pieces: while !rest.is_empty() {
-        let (piece, behind) = rest.split_at(size.min(rest.len()));
+        let (piece, after) = rest.split_at(size.min(rest.len()));
         filter.feed(piece, sink)?;
-        rest = behind;
+        rest = after;
     }
     Ok(())
 }
 
-/// Whether behind each piece of the body so much is held, and so much went out. A row is how long
+/// Whether after each piece of the body so much is held, and so much went out. A row is how long
 /// the piece is, and these two.
 fn steps(
     filter: &mut Filter,
@@ -85,12 +85,12 @@ fn steps(
 {
     let mut rest = body;
     for (size, held, put) in pieces {
-        let (piece, behind) = rest.split_at((*size).min(rest.len()));
+        let (piece, after) = rest.split_at((*size).min(rest.len()));
         filter.feed(piece, sink)?;
         if filter.held() != *held || sink.bytes().len() != *put {
             return Ok(false);
         }
-        rest = behind;
+        rest = after;
     }
     Ok(true)
 }
@@ -137,7 +137,7 @@ fn begin(
     filter.begin(decider, HEAD, chunked, sink)
 }
 
-/// The bytes, and so many times `x` behind them, and the others.
+/// The bytes, and so many times `x` after them, and the others.
 fn text(alloc: Global, front: &[u8], count: u32, back: &[u8]) -> Result<Vec<u8>, Fail> {
     let mut text = front.to_vec(alloc)?;
     for _ in 0..count {
@@ -253,7 +253,7 @@ fn held_bytes_are_counted(rt: HostRuntime) -> Result<(), Fail> {
     let alloc = rt.alloc();
     let image = text(alloc, PNG, 2041, b"")?;
     let long = text(alloc, b"", 2049, b"")?;
-    // how long each piece is, what is held behind it, and how much went out
+    // how long each piece is, what is held after it, and how much went out
     let rows: [(Response, &[u8], &[(usize, usize, usize)]); 6] = [
         (
             made_with(BARE, false, false),

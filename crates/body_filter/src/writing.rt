@@ -2,7 +2,7 @@
 ghost use Rattle.std.specs.Prelude.{◌≡◌, ◌<◌, ◌≤◌, ◌+◌, ◌++◌, [], length, OnOk};
 ghost use Rattle.orb_io.specs.Calls.{Puts};
 ghost use Rattle.body_filter.specs.Chunks.{chunk, full_chunks, count_full, rest_of, rest_chunk, last_chunk};
-ghost use Rattle.body_filter.specs.Writes.{put_of, kept_behind, end_of, Gathers};
+ghost use Rattle.body_filter.specs.Writes.{put_of, kept_after, end_of, Gathers};
 
 use crate::pushing::{WriteFault, put_bytes};
 use arrayvec::ArrayVec;
@@ -62,7 +62,7 @@ impl BodyWriter {
     pub(crate) fn put<O: Sink>(&mut self, piece: &[u8], sink: &mut O) -> Result<(), WriteFault>
         ensures puts { Puts O.Sink result sink.old sink.new (put_of self.old.chunked self.old.rest.items piece.now) }
         ensures rest { OnOk result
-            (self.new.rest.items ≡ kept_behind self.old.chunked self.old.rest.items piece.now) }
+            (self.new.rest.items ≡ kept_after self.old.chunked self.old.rest.items piece.now) }
         ensures chunked { self.new.chunked ≡ self.old.chunked }
     {
         if self.chunked {
@@ -86,7 +86,7 @@ impl BodyWriter {
     }
 }
 
-/// Puts a head, the body that was held and the piece behind it.
+/// Puts a head, the body that was held and the piece after it.
 pub(crate) fn release<O: Sink>(
     writer: &mut BodyWriter,
     head: &[u8],
@@ -96,9 +96,9 @@ pub(crate) fn release<O: Sink>(
 ) -> Result<(), WriteFault>
     ensures puts { Puts O.Sink result sink.old sink.new (head.now ++ (put_of writer.old.chunked writer.old.rest.items held.now
         ++ put_of writer.old.chunked
-        (kept_behind writer.old.chunked writer.old.rest.items held.now) piece.now)) }
-    ensures rest { OnOk result (writer.new.rest.items ≡ kept_behind writer.old.chunked
-        (kept_behind writer.old.chunked writer.old.rest.items held.now) piece.now) }
+        (kept_after writer.old.chunked writer.old.rest.items held.now) piece.now)) }
+    ensures rest { OnOk result (writer.new.rest.items ≡ kept_after writer.old.chunked
+        (kept_after writer.old.chunked writer.old.rest.items held.now) piece.now) }
     ensures chunked { writer.new.chunked ≡ writer.old.chunked }
 {
     put_bytes(head, sink)?;
@@ -115,14 +115,14 @@ pub(crate) fn put_whole<O: Sink>(
 ) -> Result<(), WriteFault>
     ensures puts { Puts O.Sink result sink.old sink.new (head.now ++ (put_of writer.old.chunked writer.old.rest.items held.now
         ++ end_of writer.old.chunked
-        (kept_behind writer.old.chunked writer.old.rest.items held.now))) }
+        (kept_after writer.old.chunked writer.old.rest.items held.now))) }
 {
     put_bytes(head, sink)?;
     writer.put(held, sink)?;
     writer.finish(sink)
 }
 
-/// Puts each chunk that the piece fills behind the rest, and keeps what fills none.
+/// Puts each chunk that the piece fills after the rest, and keeps what fills none.
 fn put_chunks<O: Sink>(
     rest: &mut ArrayVec<u8, CHUNK>,
     text: &mut ArrayVec<u8, BATCH>,
@@ -145,7 +145,7 @@ fn put_chunks<O: Sink>(
     Ok(())
 }
 
-/// Fills the text with chunks of the rest and the piece behind it, as many as it has room for. It gives
+/// Fills the text with chunks of the rest and the piece after it, as many as it has room for. It gives
 /// what is left of the piece.
 fn gather_chunks<'p>(
     rest: &mut ArrayVec<u8, CHUNK>,
@@ -160,15 +160,15 @@ fn gather_chunks<'p>(
     text.clear();
     let mut left = piece;
     'chunks: while CHUNK - rest.len() <= left.len() && FULL_CHUNK <= text.remaining_capacity() {
-        let (bytes, behind) = left.split_at(CHUNK - rest.len());
+        let (bytes, after) = left.split_at(CHUNK - rest.len());
         append_chunk(text, rest.as_slice(), bytes);
         rest.clear();
-        left = behind;
+        left = after;
     }
     left
 }
 
-/// Appends the full chunk of these bytes and those behind them, for which there is room.
+/// Appends the full chunk of these bytes and those after them, for which there is room.
 fn append_chunk(text: &mut ArrayVec<u8, BATCH>, front: &[u8], back: &[u8])
     requires full { length front.now + length back.now ≡ 1024 }
     requires room { length text.old.items + 1031 ≤ 8248 }

@@ -7,116 +7,116 @@ use Rattle.orb_io.specs.Told.{IsPrefix}
 use Rattle.orb_io.proofs.ToldLemmas.{IsPrefix-all, IsPrefix-none, IsPrefix-trans, IsPrefix-after}
 use Rattle.media_state.specs.Table.{States}
 use Rattle.response_rules.specs.declared.rules.Rule.{Rule}
-use Rattle.body_filter.specs.Exchanges.{Exchange}
+use Rattle.body_filter.specs.Responses.{Response}
 use Rattle.orb_engine.specs.declared.settings.Settings.{Settings}
-use Rattle.orb_engine.specs.Heads.{exchange_of, is_to_end}
+use Rattle.orb_engine.specs.Heads.{response_of, is_to_end}
 use Rattle.orb_engine.specs.Recording as cut
-use Rattle.orb_engine.specs.Recording.{Item, Tail, Recording, IsRecording, spell_items, spell_tail, table_behind, is_open}
+use Rattle.orb_engine.specs.Recording.{Exchange, Tail, Recording, IsRecording, spell_exchanges, spell_tail, table_after_all, is_open}
 use Rattle.orb_engine.specs.Ends.{Open, stop_at, stop_of}
-use Rattle.orb_engine.specs.Outputs.{written_front, written_whole, written_items, written_tail, output_of}
-use Rattle.orb_engine.specs.Counts.{rules_of_items, rules_of_tail, rules_of}
+use Rattle.orb_engine.specs.Outputs.{written_so_far, written_whole, written_exchanges, written_tail, output_of}
+use Rattle.orb_engine.specs.Counts.{rules_of_exchanges, rules_of_tail, rules_of}
 use Rattle.orb_engine.specs.Refusals.{IsAnsweredAs}
-use Rattle.orb_engine.proofs.OutputLaws.{written_front-whole}
+use Rattle.orb_engine.proofs.OutputLaws.{written_so_far-whole}
 use Rattle.orb_engine.proofs.TailLaws.{IsAlike}
-use Rattle.orb_engine.proofs.ItemLaws.{spell_tail-append}
-use Rattle.orb_engine.proofs.RecordingLaws.{IsCut, one_cut, spell_item-append, Grows, grow_cut}
+use Rattle.orb_engine.proofs.ExchangeLaws.{spell_tail-append}
+use Rattle.orb_engine.proofs.RecordingLaws.{IsCut, one_cut, spell_exchange-append, Grows, grow_cut}
 
-cut_of : (s : Settings) (m : List ℕ) (a : Recording) → IsRecording s m a → IsCut s finite.empty m a.items a.tail a.more
-cut_of s m a h = record { spells = h.spells; whole = h.items; stands = h.tail; last = h.last }
+cut_of : (s : Settings) (m : List ℕ) (a : Recording) → IsRecording s m a → IsCut s finite.empty m a.exchanges a.tail a.more
+cut_of s m a h = record { spells = h.spells; whole = h.exchanges; stands = h.tail; last = h.last }
 
 -- ---- one recording
 
 -- the same whole exchanges, and alike tails
 pub record IsSame (s : Settings) (a b : Recording) : Type 0 where
-  pub items : a.items ≡ b.items
+  pub exchanges : a.exchanges ≡ b.exchanges
   pub tails : IsAlike s a.tail b.tail
 
 same_of : (s : Settings) (m : List ℕ) (a b : Recording) → IsRecording s m a → IsRecording s m b → IsSame s a b
 same_of s m a b x y =
-    let one = one_cut s finite.empty m a.items a.tail a.more b.items b.tail b.more (cut_of s m a x) (cut_of s m b y) in
-    record { items = one.0; tails = one.1 }
+    let one = one_cut s finite.empty m a.exchanges a.tail a.more b.exchanges b.tail b.more (cut_of s m a x) (cut_of s m b y) in
+    record { exchanges = one.0; tails = one.1 }
 
-pub one-items : (s : Settings) (m : List ℕ) (a b : Recording) → IsRecording s m a → IsRecording s m b → a.items ≡ b.items
-one-items s m a b x y = (same_of s m a b x y).items
+pub one-exchanges : (s : Settings) (m : List ℕ) (a b : Recording) → IsRecording s m a → IsRecording s m b → a.exchanges ≡ b.exchanges
+one-exchanges s m a b x y = (same_of s m a b x y).exchanges
 
 pub one-stop : (s : Settings) (m : List ℕ) (a b : Recording) → IsRecording s m a → IsRecording s m b → (ended : Bool)
     → stop_of s a ended ≡ stop_of s b ended
 unfolding stop_of
 one-stop s m a b x y ended =
     let same = same_of s m a b x y in
-    ap (λ items. stop_at s (table_behind finite.empty items) (length (spell_items items [])) ended a.tail) same.items
-    ∙ same.tails.stop (table_behind finite.empty b.items) (length (spell_items b.items [])) ended
+    ap (λ exchanges. stop_at s (table_after_all finite.empty exchanges) (length (spell_exchanges exchanges [])) ended a.tail) same.exchanges
+    ∙ same.tails.stop (table_after_all finite.empty b.exchanges) (length (spell_exchanges b.exchanges [])) ended
 
 pub one-output : (s : Settings) (m : List ℕ) (a b : Recording) → IsRecording s m a → IsRecording s m b → (ended : Bool)
     → output_of s a ended ≡ output_of s b ended
 unfolding output_of
 one-output s m a b x y ended =
     let same = same_of s m a b x y in
-    ap (λ items. written_items s finite.empty 0 items ++ written_tail s (table_behind finite.empty items) (length items) ended a.tail) same.items
-    ∙ ap (λ l. written_items s finite.empty 0 b.items ++ l) (same.tails.written (table_behind finite.empty b.items) (length b.items) ended)
+    ap (λ exchanges. written_exchanges s finite.empty 0 exchanges ++ written_tail s (table_after_all finite.empty exchanges) (length exchanges) ended a.tail) same.exchanges
+    ∙ ap (λ l. written_exchanges s finite.empty 0 b.exchanges ++ l) (same.tails.written (table_after_all finite.empty b.exchanges) (length b.exchanges) ended)
 
 pub one-rules : (s : Settings) (m : List ℕ) (a b : Recording) → IsRecording s m a → IsRecording s m b → (ended : Bool)
     → rules_of s a ended ≡ rules_of s b ended
 unfolding rules_of
 one-rules s m a b x y ended =
     let same = same_of s m a b x y in
-    ap (λ items. rules_of_items items ++ rules_of_tail s (table_behind finite.empty items) ended a.tail) same.items
-    ∙ ap (λ l. rules_of_items b.items ++ l) (same.tails.rules (table_behind finite.empty b.items) ended)
+    ap (λ exchanges. rules_of_exchanges exchanges ++ rules_of_tail s (table_after_all finite.empty exchanges) ended a.tail) same.exchanges
+    ∙ ap (λ l. rules_of_exchanges b.exchanges ++ l) (same.tails.rules (table_after_all finite.empty b.exchanges) ended)
 
 -- ---- a refusal
 
-open_stop : (s : Settings) (table : States) (place : ℕ) (t : Tail) → is_open t ≡ true → stop_at s table place false t ≡ Open
-open_stop s table place (cut.Asking []) h = refl
-open_stop s table place (cut.Asking (b ∷ head)) h = refl
-open_stop s table place (cut.Answering r head) h = refl
-open_stop s table place (cut.Sending g sent body) h = refl
-open_stop s table place _ h = absurd (false≢true h)
+open_stop : (s : Settings) (table : States) (offset : ℕ) (t : Tail) → is_open t ≡ true → stop_at s table offset false t ≡ Open
+open_stop s table offset (cut.InRequestHead []) h = refl
+open_stop s table offset (cut.InRequestHead (b ∷ head)) h = refl
+open_stop s table offset (cut.InResponseHead r head) h = refl
+open_stop s table offset (cut.InBody g sent body) h = refl
+open_stop s table offset _ h = absurd (false≢true h)
 
-stop_open : (s : Settings) (table : States) (place : ℕ) (t : Tail) → stop_at s table place false t ≡ Open → is_open t ≡ true
-stop_open s table place (cut.Asking head) h = refl
-stop_open s table place (cut.Answering r head) h = refl
-stop_open s table place (cut.Sending g sent body) h = refl
-stop_open s table place _ h = absurd (cc)
+stop_open : (s : Settings) (table : States) (offset : ℕ) (t : Tail) → stop_at s table offset false t ≡ Open → is_open t ≡ true
+stop_open s table offset (cut.InRequestHead head) h = refl
+stop_open s table offset (cut.InResponseHead r head) h = refl
+stop_open s table offset (cut.InBody g sent body) h = refl
+stop_open s table offset _ h = absurd (cc)
 
 pub opens-stop : (s : Settings) (a : Recording) → (stop_of s a false ≡ Open) ↔ (is_open a.tail ≡ true)
 unfolding stop_of
 opens-stop s a = (
-  stop_open s (table_behind finite.empty a.items) (length (spell_items a.items [])) a.tail,
-  open_stop s (table_behind finite.empty a.items) (length (spell_items a.items [])) a.tail,
+  stop_open s (table_after_all finite.empty a.exchanges) (length (spell_exchanges a.exchanges [])) a.tail,
+  open_stop s (table_after_all finite.empty a.exchanges) (length (spell_exchanges a.exchanges [])) a.tail,
 )
 
 -- a tail that is not open is answered so whether or not the input has ended
 record IsShut (s : Settings) (t : Tail) : Type 0 where
-  stop : (table : States) (place : ℕ) (ended : Bool) → stop_at s table place ended t ≡ stop_at s table place false t
+  stop : (table : States) (offset : ℕ) (ended : Bool) → stop_at s table offset ended t ≡ stop_at s table offset false t
   written : (table : States) (before : ℕ) (ended : Bool) → written_tail s table before ended t ≡ written_tail s table before false t
   rules : (table : States) (ended : Bool) → rules_of_tail s table ended t ≡ rules_of_tail s table false t
 
 shut : (s : Settings) (t : Tail) → (is_open t ≡ true → ⊥) → IsShut s t
-shut s (cut.Asking head) h = absurd (h refl)
-shut s (cut.Answering r head) h = absurd (h refl)
-shut s (cut.Sending g sent body) h = absurd (h refl)
+shut s (cut.InRequestHead head) h = absurd (h refl)
+shut s (cut.InResponseHead r head) h = absurd (h refl)
+shut s (cut.InBody g sent body) h = absurd (h refl)
 shut s _ h = record {
-  stop = λ table place ended. refl;
+  stop = λ table offset ended. refl;
   written = λ table before ended. refl;
   rules = λ table ended. refl;
 }
 
-spell_items-append : (items : List Item) (r x : List ℕ) → spell_items items r ++ x ≡ spell_items items (r ++ x)
-spell_items-append [] r x = refl
-spell_items-append (i ∷ items) r x =
-    spell_item-append i (spell_items items r) x ∙ ap (λ l. cut.spell_item i l) (spell_items-append items r x)
+spell_exchanges-append : (exchanges : List Exchange) (r x : List ℕ) → spell_exchanges exchanges r ++ x ≡ spell_exchanges exchanges (r ++ x)
+spell_exchanges-append [] r x = refl
+spell_exchanges-append (i ∷ exchanges) r x =
+    spell_exchange-append i (spell_exchanges exchanges r) x ∙ ap (λ l. cut.spell_exchange i l) (spell_exchanges-append exchanges r x)
 
 -- the recording, with further bytes that are not looked at
 with_more : Recording → List ℕ → Recording
-with_more a x = record { items = a.items; tail = a.tail; more = a.more ++ x }
+with_more a x = record { exchanges = a.exchanges; tail = a.tail; more = a.more ++ x }
 
 with_more-is : (s : Settings) (m x : List ℕ) (a : Recording) → IsRecording s m a → (is_open a.tail ≡ true → ⊥)
     → IsRecording s (m ++ x) (with_more a x)
 unfolding with_more
 with_more-is s m x a h closed = record {
-  spells = ap (λ l. l ++ x) h.spells ∙ spell_items-append a.items (spell_tail a.tail a.more) x
-      ∙ ap (spell_items a.items) (spell_tail-append a.tail a.more x);
-  items = h.items;
+  spells = ap (λ l. l ++ x) h.spells ∙ spell_exchanges-append a.exchanges (spell_tail a.tail a.more) x
+      ∙ ap (spell_exchanges a.exchanges) (spell_tail-append a.tail a.more x);
+  exchanges = h.exchanges;
   tail = h.tail;
   last = λ o. absurd (closed o);
 }
@@ -126,9 +126,9 @@ unfolding with_more stop_of output_of rules_of
 with_more-answers s x a closed =
     let t = shut s a.tail closed in
     record {
-      stop = λ ended. t.stop (table_behind finite.empty a.items) (length (spell_items a.items [])) ended;
-      output = λ ended. ap (λ l. written_items s finite.empty 0 a.items ++ l) (t.written (table_behind finite.empty a.items) (length a.items) ended);
-      rules = λ ended. ap (λ l. rules_of_items a.items ++ l) (t.rules (table_behind finite.empty a.items) ended);
+      stop = λ ended. t.stop (table_after_all finite.empty a.exchanges) (length (spell_exchanges a.exchanges [])) ended;
+      output = λ ended. ap (λ l. written_exchanges s finite.empty 0 a.exchanges ++ l) (t.written (table_after_all finite.empty a.exchanges) (length a.exchanges) ended);
+      rules = λ ended. ap (λ l. rules_of_exchanges a.exchanges ++ l) (t.rules (table_after_all finite.empty a.exchanges) ended);
     }
 
 pub refusal-stands : (s : Settings) (m more : List ℕ) (a : Recording) → IsRecording s m a → (stop_of s a false ≡ Open → ⊥)
@@ -150,34 +150,34 @@ refusal-alone s m more a b h refused y =
 -- ---- longer bytes
 
 grows_of : (s : Settings) (m more : List ℕ) (a b : Recording) → IsRecording s m a → IsRecording s (m ++ more) b
-    → Grows s finite.empty a.items a.tail b.items b.tail
+    → Grows s finite.empty a.exchanges a.tail b.exchanges b.tail
 grows_of s m more a b x y =
-    grow_cut s finite.empty m more a.items a.tail a.more b.items b.tail b.more (cut_of s m a x) (cut_of s (m ++ more) b y)
+    grow_cut s finite.empty m more a.exchanges a.tail a.more b.exchanges b.tail b.more (cut_of s m a x) (cut_of s (m ++ more) b y)
 
 -- an end of the input adds to what is written
 
-ends_by : (s : Settings) (x : Exchange) (number : ℕ) (g : List ℕ) (to_end : Bool)
-    → IsPrefix (written_front s.job x g) (cond to_end (written_whole s.job number x g) (written_front s.job x g))
+ends_by : (s : Settings) (x : Response) (number : ℕ) (g : List ℕ) (to_end : Bool)
+    → IsPrefix (written_so_far s.job x g) (cond to_end (written_whole s.job number x g) (written_so_far s.job x g))
 ends_by s x number g true =
-    subst (λ l. IsPrefix (written_front s.job x g) (written_whole s.job number x l)) (append-nil g)
-    (written_front-whole s.job number x g [])
-ends_by s x number g false = IsPrefix-all (written_front s.job x g)
+    subst (λ l. IsPrefix (written_so_far s.job x g) (written_whole s.job number x l)) (append-nil g)
+    (written_so_far-whole s.job number x g [])
+ends_by s x number g false = IsPrefix-all (written_so_far s.job x g)
 
 ends_tail : (s : Settings) (table : States) (number : ℕ) (t : Tail)
     → IsPrefix (written_tail s table number false t) (written_tail s table number true t)
-ends_tail s table number (cut.Sending h m g) = ends_by s (exchange_of s table h) (number + 1) g (is_to_end h.response.frame)
+ends_tail s table number (cut.InBody h m g) = ends_by s (response_of s table h) (number + 1) g (is_to_end h.response.frame)
 ends_tail s table number (cut.BadBody h m g b) = IsPrefix-all _
 ends_tail s table number _ = IsPrefix-none _
 
 pub output-ends : (s : Settings) (a : Recording) → IsPrefix (output_of s a false) (output_of s a true)
 unfolding output_of
 output-ends s a =
-    IsPrefix-after (written_items s finite.empty 0 a.items) _ _ (ends_tail s (table_behind finite.empty a.items) (length a.items) a.tail)
+    IsPrefix-after (written_exchanges s finite.empty 0 a.exchanges) _ _ (ends_tail s (table_after_all finite.empty a.exchanges) (length a.exchanges) a.tail)
 
 output-open : (s : Settings) (m more : List ℕ) (a b : Recording) → IsRecording s m a → IsRecording s (m ++ more) b
     → IsPrefix (output_of s a false) (output_of s b false)
 unfolding output_of
-output-open s m more a b x y = (grows_of s m more a b x y).grows 0 (length a.items) (length b.items)
+output-open s m more a b x y = (grows_of s m more a b x y).grows 0 (length a.exchanges) (length b.exchanges)
 
 pub output-longer : (s : Settings) (m more : List ℕ) (a b : Recording) → IsRecording s m a → IsRecording s (m ++ more) b
     → (ended : Bool) → IsPrefix (output_of s a false) (output_of s b ended)
@@ -185,29 +185,29 @@ output-longer s m more a b x y false = output-open s m more a b x y
 output-longer s m more a b x y true =
     IsPrefix-trans (output_of s a false) (output_of s b false) (output_of s b true) (output-open s m more a b x y) (output-ends s b)
 
-pub items-longer : (s : Settings) (m more : List ℕ) (a b : Recording) → IsRecording s m a → IsRecording s (m ++ more) b
-    → (others : List Item) × (b.items ≡ a.items ++ others)
-items-longer s m more a b x y = let g = grows_of s m more a b x y in (g.others, g.goes_on)
+pub exchanges-longer : (s : Settings) (m more : List ℕ) (a b : Recording) → IsRecording s m a → IsRecording s (m ++ more) b
+    → (others : List Exchange) × (b.exchanges ≡ a.exchanges ++ others)
+exchanges-longer s m more a b x y = let g = grows_of s m more a b x y in (g.others, g.goes_on)
 
 rules_of-open : (s : Settings) (table : States) (t : Tail) → rules_of_tail s table false t ≡ []
-rules_of-open s table (cut.Sending h sent body) = refl
+rules_of-open s table (cut.InBody h sent body) = refl
 rules_of-open s table _ = refl
 
-rules_of_items-append : (items others : List Item) → rules_of_items (items ++ others) ≡ rules_of_items items ++ rules_of_items others
-rules_of_items-append [] others = refl
-rules_of_items-append (i ∷ items) others = ap (λ l. i.rule ∷ l) (rules_of_items-append items others)
+rules_of_exchanges-append : (exchanges others : List Exchange) → rules_of_exchanges (exchanges ++ others) ≡ rules_of_exchanges exchanges ++ rules_of_exchanges others
+rules_of_exchanges-append [] others = refl
+rules_of_exchanges-append (i ∷ exchanges) others = ap (λ l. i.rule ∷ l) (rules_of_exchanges-append exchanges others)
 
 pub rules-longer : (s : Settings) (m more : List ℕ) (a b : Recording) → IsRecording s m a → IsRecording s (m ++ more) b
     → (ended : Bool) → (others : List Rule) × (rules_of s b ended ≡ rules_of s a false ++ others)
 unfolding rules_of
 rules-longer s m more a b x y ended =
     let g = grows_of s m more a b x y in
-    let last = rules_of_tail s (table_behind finite.empty b.items) ended b.tail in
-    let none : rules_of_items a.items ++ rules_of_tail s (table_behind finite.empty a.items) false a.tail ≡ rules_of_items a.items =
-    ap (λ l. rules_of_items a.items ++ l) (rules_of-open s (table_behind finite.empty a.items) a.tail) ∙ append-nil (rules_of_items a.items) in (
-      rules_of_items g.others ++ last,
-      ap (λ l. rules_of_items l ++ last) g.goes_on
-          ∙ ap (λ l. l ++ last) (rules_of_items-append a.items g.others)
-          ∙ append_assoc (rules_of_items a.items) (rules_of_items g.others) last
-          ∙ ap (λ l. l ++ (rules_of_items g.others ++ last)) (sym none),
+    let last = rules_of_tail s (table_after_all finite.empty b.exchanges) ended b.tail in
+    let none : rules_of_exchanges a.exchanges ++ rules_of_tail s (table_after_all finite.empty a.exchanges) false a.tail ≡ rules_of_exchanges a.exchanges =
+    ap (λ l. rules_of_exchanges a.exchanges ++ l) (rules_of-open s (table_after_all finite.empty a.exchanges) a.tail) ∙ append-nil (rules_of_exchanges a.exchanges) in (
+      rules_of_exchanges g.others ++ last,
+      ap (λ l. rules_of_exchanges l ++ last) g.goes_on
+          ∙ ap (λ l. l ++ last) (rules_of_exchanges-append a.exchanges g.others)
+          ∙ append_assoc (rules_of_exchanges a.exchanges) (rules_of_exchanges g.others) last
+          ∙ ap (λ l. l ++ (rules_of_exchanges g.others ++ last)) (sym none),
     )

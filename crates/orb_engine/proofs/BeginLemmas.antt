@@ -4,7 +4,7 @@ use Rattle.std.specs.FinMap as map
 use Rattle.std.proofs.lemmas.List.{append-nil}
 use Rattle.orb_io.specs.Told.{IsPrefix}
 use Rattle.response_rules.specs.declared.deciding.Decider.{Decider}
-use Rattle.body_filter.specs.Exchanges as filter
+use Rattle.body_filter.specs.Responses as filter
 use Rattle.http_exchange.specs.Reads.{StandsAt}
 use Rattle.http_exchange.specs.Reads.{HasRead as UnframerHasRead}
 use Rattle.http_exchange.specs.declared.frames.BodyFrame.{BodyFrame}
@@ -18,8 +18,8 @@ use Rattle.orb_engine.specs.declared.engine.Engine.{Engine}
 use Rattle.orb_engine.specs.declared.engine.states.Asked.{Asked}
 use Rattle.orb_engine.specs.declared.engine.states.Incoming.{Incoming}
 use Rattle.orb_engine.specs.Heads.{id_of, is_chunked, is_to_end, judged_by}
-use Rattle.orb_engine.specs.Recording.{spell_items}
-use Rattle.orb_engine.specs.Outputs.{written_items, written_front}
+use Rattle.orb_engine.specs.Recording.{spell_exchanges}
+use Rattle.orb_engine.specs.Outputs.{written_exchanges, written_so_far}
 use Rattle.orb_engine.specs.Writing.{WriterReads, gathered_by}
 use Rattle.orb_engine.specs.Reads.{Coming, coming_response, coming_written, spell_coming, table_of, Fills, Breaks, HasReadHeads}
 use Rattle.orb_engine.proofs.StepLemmas.{seen-body, breaks-body}
@@ -36,7 +36,7 @@ starts frame.ToEnd = (Rest, refl)
 abbrev pub begun : (asked : Asked) (read : Decider × BodyFrame) (e : Engine) (s : Settings) (m given : List ℕ)
     → HasReadHeads asked read e s m given → Coming
 begun asked read e s m given q = record {
-  items = q.whole.items;
+  exchanges = q.whole.exchanges;
   heads = record { request = q.whole.request; response = q.response };
   sent = [];
   body = [];
@@ -45,7 +45,7 @@ begun asked read e s m given q = record {
 -- its response, as the writer has it
 pub same-exchange : (asked : Asked) (read : Decider × BodyFrame) (e : Engine) (s : Settings) (m given : List ℕ)
     (q : HasReadHeads asked read e s m given) (text : List ℕ) (chunked : Bool) → text ≡ e.head → chunked ≡ is_chunked read.1
-    → filter.exchange_of (judged_by s (table_of q.whole.items) (begun asked read e s m given q).heads) text chunked
+    → filter.response_of (judged_by s (table_of q.whole.exchanges) (begun asked read e s m given q).heads) text chunked
     ≡ coming_response s (begun asked read e s m given q)
 same-exchange asked read e s m given q text chunked text_is chunked_is =
     rw (text_is ∙ q.whole.buffer ∙ sym q.bytes, chunked_is ∙ ap is_chunked q.frame_is) refl
@@ -53,25 +53,25 @@ same-exchange asked read e s m given q text chunked text_is chunked_is =
 spelled : (asked : Asked) (read : Decider × BodyFrame) (e : Engine) (s : Settings) (m given : List ℕ)
     (q : HasReadHeads asked read e s m given) → m ≡ spell_coming (begun asked read e s m given q)
 spelled asked read e s m given q =
-    q.whole.spells ∙ ap (λ t. spell_items q.whole.items (q.whole.request.bytes ++ t)) (sym (append-nil _ ∙ q.bytes))
+    q.whole.spells ∙ ap (λ t. spell_exchanges q.whole.exchanges (q.whole.request.bytes ++ t)) (sym (append-nil _ ∙ q.bytes))
 
 -- what is owed of it, after what was given and gathered
 owed : (asked : Asked) (read : Decider × BodyFrame) (e : Engine) (s : Settings) (m given : List ℕ)
-    (q : HasReadHeads asked read e s m given) (y : filter.Exchange) → y ≡ coming_response s (begun asked read e s m given q)
-    → (given ++ gathered_by e.writer) ++ written_front s.job y [] ≡ coming_written s (begun asked read e s m given q)
+    (q : HasReadHeads asked read e s m given) (y : filter.Response) → y ≡ coming_response s (begun asked read e s m given q)
+    → (given ++ gathered_by e.writer) ++ written_so_far s.job y [] ≡ coming_written s (begun asked read e s m given q)
 owed asked read e s m given q y is =
-    ap (λ t. t ++ written_front s.job y []) q.whole.gave
-    ∙ ap (λ (z : filter.Exchange). written_items s map.empty 0 q.whole.items ++ written_front s.job z []) is
+    ap (λ t. t ++ written_so_far s.job y []) q.whole.gave
+    ∙ ap (λ (z : filter.Response). written_exchanges s map.empty 0 q.whole.exchanges ++ written_so_far s.job z []) is
 
 pub begun-fills : (incoming : Incoming) (asked : Asked) (read : Decider × BodyFrame) (e e' : Engine) (s : Settings) (m given more : List ℕ)
-    (q : HasReadHeads asked read e s m given) (y : filter.Exchange) → IsKept e e'
+    (q : HasReadHeads asked read e s m given) (y : filter.Response) → IsKept e e'
     → y ≡ coming_response s (begun asked read e s m given q)
-    → (given ++ more) ++ gathered_by e'.writer ≡ (given ++ gathered_by e.writer) ++ written_front s.job y []
+    → (given ++ more) ++ gathered_by e'.writer ≡ (given ++ gathered_by e.writer) ++ written_so_far s.job y []
     → WriterReads e'.writer s y []
     → UnframerHasRead incoming.unframer read.1 [] [] → incoming.to_end ≡ is_to_end read.1 → incoming.id ≡ id_of asked.asks
-    → incoming.place ≡ asked.place
+    → incoming.offset ≡ asked.offset
     → Fills incoming e' s m (given ++ more)
-begun-fills incoming asked read e e' s m given more q y kept is gave reads unframer to_end id place =
+begun-fills incoming asked read e e' s m given more q y kept is gave reads unframer to_end id offset =
     let stands = subst (λ (g : BodyFrame). StandsAt incoming.unframer g [] []) q.frame_is unframer.stands in
     record {
       coming = begun asked read e s m given q;
@@ -81,26 +81,26 @@ begun-fills incoming asked read e e' s m given more q y kept is gave reads unfra
       front = front_read incoming.unframer q.response.frame [] [] stands;
       gave = gave ∙ owed asked read e s m given q y is;
       taken = kept.taken ∙ q.whole.taken;
-      common = common-kept e e' s q.whole.items given more kept q.whole.common;
+      common = common-kept e e' s q.whole.exchanges given more kept q.whole.common;
       receives = record {
         unframer = record { stands = stands };
-        writer = subst (λ (z : filter.Exchange). WriterReads e'.writer s z []) is reads;
+        writer = subst (λ (z : filter.Response). WriterReads e'.writer s z []) is reads;
         media = kept.media ∙ q.whole.media;
         id = id ∙ ap id_of q.whole.asks;
         to_end = to_end ∙ ap is_to_end q.frame_is;
-        place = place ∙ q.whole.place;
+        offset = offset ∙ q.whole.offset;
       };
     }
 
 pub begun-breaks : (asked : Asked) (read : Decider × BodyFrame) (e e' : Engine) (s : Settings) (m given more : List ℕ)
-    (q : HasReadHeads asked read e s m given) (y : filter.Exchange) → IsKept e e'
+    (q : HasReadHeads asked read e s m given) (y : filter.Response) → IsKept e e'
     → y ≡ coming_response s (begun asked read e s m given q)
-    → IsPrefix (given ++ more) ((given ++ gathered_by e.writer) ++ written_front s.job y [])
+    → IsPrefix (given ++ more) ((given ++ gathered_by e.writer) ++ written_so_far s.job y [])
     → Breaks e' s m false (given ++ more)
 begun-breaks asked read e e' s m given more q y kept is within =
     let c = begun asked read e s m given q in
     let (u, stands) = starts q.response.frame in
-    breaks-body e' s m given more q.whole.items _ (rw kept.told q.whole.common.told)
+    breaks-body e' s m given more q.whole.exchanges _ (rw kept.told q.whole.common.told)
     (subst (λ (t : List ℕ). IsPrefix (given ++ more) t) (owed asked read e s m given q y is) within)
-    (seen-body s m q.whole.items c.heads [] [] u (spelled asked read e s m given q) q.whole.whole
+    (seen-body s m q.whole.exchanges c.heads [] [] u (spelled asked read e s m given q) q.whole.whole
     (record { request = q.whole.good; response = q.good }) (front_read u q.response.frame [] [] stands) (record { stands = stands }))

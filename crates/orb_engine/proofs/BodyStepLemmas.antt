@@ -13,55 +13,55 @@ use Rattle.orb_engine.specs.declared.engine.states.Incoming.{Incoming}
 use Rattle.orb_engine.specs.declared.engine.states.State.{State}
 use Rattle.orb_engine.specs.declared.engine.states.State.TheVariants as state
 use Rattle.orb_engine.specs.declared.outcome.EngineOutcome.TheVariants as outcome
-use Rattle.orb_engine.specs.Heads.{Heads, exchange_of}
+use Rattle.orb_engine.specs.Heads.{Heads, response_of}
 use Rattle.orb_engine.specs.Recording as cut
-use Rattle.orb_engine.specs.Recording.{Item, Tail, IsTail, IsSending, spell_heads, spell_items, spell_tail}
+use Rattle.orb_engine.specs.Recording.{Exchange, Tail, IsTail, IsOpenBody, spell_heads, spell_exchanges, spell_tail}
 use Rattle.orb_engine.specs.Ends as ends
 use Rattle.orb_engine.specs.Ends.{stop_of}
-use Rattle.orb_engine.specs.Outputs.{output_of, written_items, written_front}
-use Rattle.orb_engine.specs.Counts.{rules_of, rules_of_items}
+use Rattle.orb_engine.specs.Outputs.{output_of, written_exchanges, written_so_far}
+use Rattle.orb_engine.specs.Counts.{rules_of, rules_of_exchanges}
 use Rattle.orb_engine.specs.Writing.{gathered_by, body_of}
-use Rattle.orb_engine.specs.Reads.{Coming, coming_written, spell_coming, open_cut, table_of, counts_of, Common, Receives, Sends, Stands, Reads, Stops, Passes, IsInBody, with_unframer}
-use Rattle.orb_engine.proofs.CutLemmas.{spell_items-append, spell_items-length}
-use Rattle.orb_engine.proofs.FillLemmas.{output-sending}
+use Rattle.orb_engine.specs.Reads.{Coming, coming_written, spell_coming, open_cut, table_of, counts_of, Common, Receives, AtBody, Stands, Reads, Stops, Passes, IsInBody, with_unframer}
+use Rattle.orb_engine.proofs.CutLemmas.{spell_exchanges-append, spell_exchanges-length}
+use Rattle.orb_engine.proofs.FillLemmas.{output-body}
 use Rattle.orb_engine.proofs.StepLemmas.{front-short}
 use Rattle.orb_engine.proofs.HeadStepLemmas.{IsSameHead, common-same}
 
-sends-at : (t : State) (incoming : Incoming) (e : Engine) (s : Settings) (items : List Item) (tail : Tail) → t ≡ state.Body incoming
-    → Stands t e s items tail → Sends incoming e s items tail
-sends-at t incoming e s items tail is h = subst (λ (u : State). Stands u e s items tail) is h
+body-at : (t : State) (incoming : Incoming) (e : Engine) (s : Settings) (exchanges : List Exchange) (tail : Tail) → t ≡ state.Body incoming
+    → Stands t e s exchanges tail → AtBody incoming e s exchanges tail
+body-at t incoming e s exchanges tail is h = subst (λ (u : State). Stands u e s exchanges tail) is h
 
 -- an engine in a body
 pub record HasOpenBody (incoming : Incoming) (e : Engine) (s : Settings) (m given : List ℕ) : Type 0 where
   pub coming : Coming
   pub spells : m ≡ spell_coming coming
-  pub whole : cut.AreItems s map.empty coming.items
-  pub sending : IsSending s (table_of coming.items) coming.heads coming.sent coming.body
+  pub whole : cut.AreExchanges s map.empty coming.exchanges
+  pub sending : IsOpenBody s (table_of coming.exchanges) coming.heads coming.sent coming.body
   pub gave : given ++ gathered_by e.writer ≡ coming_written s coming
   pub taken : e.progress.taken ≡ length m
-  pub common : Common e s coming.items given
+  pub common : Common e s coming.exchanges given
   pub receives : Receives incoming e s coming
 
 pub open-body : (incoming : Incoming) (e : Engine) (s : Settings) (m given : List ℕ) → Reads e s m given → e.state ≡ state.Body incoming
     → HasOpenBody incoming e s m given
 open-body incoming e s m given r is =
-    let a = sends-at e.state incoming e s r.items r.tail is r.stands in
+    let a = body-at e.state incoming e s r.exchanges r.tail is r.stands in
     record {
-      coming = record { items = r.items; heads = a.heads; sent = a.sent; body = a.body };
-      spells = r.cut.spells ∙ ap (λ t. spell_items r.items (spell_tail t [])) a.is ∙ ap (λ x. spell_items r.items (spell_heads a.heads x)) (append-nil a.sent);
-      whole = r.cut.items;
-      sending = subst (λ (t : Tail). IsTail s (table_of r.items) t) a.is r.cut.tail;
-      gave = r.gave ∙ ap (λ t. output_of s (open_cut r.items t) false) a.is ∙ output-sending s r.items a.heads a.sent a.body [];
+      coming = record { exchanges = r.exchanges; heads = a.heads; sent = a.sent; body = a.body };
+      spells = r.cut.spells ∙ ap (λ t. spell_exchanges r.exchanges (spell_tail t [])) a.is ∙ ap (λ x. spell_exchanges r.exchanges (spell_heads a.heads x)) (append-nil a.sent);
+      whole = r.cut.exchanges;
+      sending = subst (λ (t : Tail). IsTail s (table_of r.exchanges) t) a.is r.cut.tail;
+      gave = r.gave ∙ ap (λ t. output_of s (open_cut r.exchanges t) false) a.is ∙ output-body s r.exchanges a.heads a.sent a.body [];
       taken = r.taken;
       common = r.common;
       receives = a.receives;
     }
 
-spell-more : (items : List Item) (h : Heads) (sent x : List ℕ)
-    → spell_items items (spell_heads h sent) ++ x ≡ spell_items items (spell_heads h (sent ++ x))
-spell-more items h sent x =
-    spell_items-append items (spell_heads h sent) x
-    ∙ ap (spell_items items) (append_assoc h.request.bytes (h.response.bytes ++ sent) x
+spell-more : (exchanges : List Exchange) (h : Heads) (sent x : List ℕ)
+    → spell_exchanges exchanges (spell_heads h sent) ++ x ≡ spell_exchanges exchanges (spell_heads h (sent ++ x))
+spell-more exchanges h sent x =
+    spell_exchanges-append exchanges (spell_heads h sent) x
+    ∙ ap (spell_exchanges exchanges) (append_assoc h.request.bytes (h.response.bytes ++ sent) x
     ∙ ap (λ t. h.request.bytes ++ t) (append_assoc h.response.bytes sent x))
 
 pub in-body : (t : State) → IsInBody t → (i : Incoming) × (t ≡ state.Body i)
@@ -79,20 +79,20 @@ pub body-got : (incoming : Incoming) (u : Unframer) (e e' : Engine) (s : Setting
 body-got incoming u e e' s m given piece body used h same gets taken =
     let c = h.coming in
     record {
-      coming = record { items = c.items; heads = c.heads; sent = c.sent ++ take used piece; body = c.body };
-      spells = ap (λ x. x ++ take used piece) h.spells ∙ spell-more c.items c.heads c.sent (take used piece);
+      coming = record { exchanges = c.exchanges; heads = c.heads; sent = c.sent ++ take used piece; body = c.body };
+      spells = ap (λ x. x ++ take used piece) h.spells ∙ spell-more c.exchanges c.heads c.sent (take used piece);
       whole = h.whole;
       good = h.sending.heads;
       front = gets.front;
       gave = ap (λ w. given ++ gathered_by w) same.writer ∙ h.gave;
       taken = omega (arith, taken, h.taken, length-append m (take used piece), length-take-le used piece gets.within);
-      common = common-same e e' s c.items given same h.common;
+      common = common-same e e' s c.exchanges given same h.common;
       unframer = gets.reads;
       writer = rw same.writer h.receives.writer;
       media = same.media ∙ h.receives.media;
       id = h.receives.id;
       to_end = h.receives.to_end;
-      place = h.receives.place;
+      offset = h.receives.offset;
     }
 
 -- its content fits
@@ -103,8 +103,8 @@ pub body-few : (incoming : Incoming) (u : Unframer) (e : Engine) (s : Settings) 
 body-few incoming u e s m given piece body used h gets few =
     let c = h.coming in
     let short = front-short c.heads.response.frame (c.sent ++ take used piece) (c.body ++ body) gets.front in
-    let size : length m ≡ length (spell_items c.items []) + length (spell_heads c.heads c.sent) =
-    ap length h.spells ∙ spell_items-length c.items (spell_heads c.heads c.sent) in
+    let size : length m ≡ length (spell_exchanges c.exchanges []) + length (spell_heads c.heads c.sent) =
+    ap length h.spells ∙ spell_exchanges-length c.exchanges (spell_heads c.heads c.sent) in
     let heads : length (spell_heads c.heads c.sent) ≡ length c.heads.request.bytes + (length c.heads.response.bytes + length c.sent) =
     simp length-append in
     omega (arith, h.taken, h.receives.writer.body, length-append c.body body, length-append c.sent (take used piece), length-take-le used piece gets.within, gets.within)
@@ -117,16 +117,16 @@ split-at piece at within =
     rw add-one (drop-cons piece at 0 within) in
     (ap (λ t. take at piece ++ t) (sym more) ∙ take-append-drop at piece, take_more piece at 0 within)
 
-pub output-bad : (s : Settings) (items : List Item) (h : Heads) (sent body : List ℕ) (b : ℕ) (more : List ℕ)
-    → output_of s (record { items = items; tail = cut.BadBody h sent body b; more = more }) false
-    ≡ written_items s map.empty 0 items ++ written_front s.job (exchange_of s (table_of items) h) body
+pub output-bad : (s : Settings) (exchanges : List Exchange) (h : Heads) (sent body : List ℕ) (b : ℕ) (more : List ℕ)
+    → output_of s (record { exchanges = exchanges; tail = cut.BadBody h sent body b; more = more }) false
+    ≡ written_exchanges s map.empty 0 exchanges ++ written_so_far s.job (response_of s (table_of exchanges) h) body
 unfolding output_of
-output-bad s items h sent body b more = refl
+output-bad s exchanges h sent body b more = refl
 
-rules-bad : (s : Settings) (items : List Item) (h : Heads) (sent body : List ℕ) (b : ℕ) (more : List ℕ)
-    → rules_of s (record { items = items; tail = cut.BadBody h sent body b; more = more }) false ≡ rules_of_items items
+rules-bad : (s : Settings) (exchanges : List Exchange) (h : Heads) (sent body : List ℕ) (b : ℕ) (more : List ℕ)
+    → rules_of s (record { exchanges = exchanges; tail = cut.BadBody h sent body b; more = more }) false ≡ rules_of_exchanges exchanges
 unfolding rules_of
-rules-bad s items h sent body b more = append-nil _
+rules-bad s exchanges h sent body b more = append-nil _
 
 -- the unframer refused a byte of the piece
 pub body-bad : (incoming : Incoming) (u : Unframer) (e e' : Engine) (s : Settings) (m given piece : List ℕ) (at : ℕ)
@@ -139,16 +139,16 @@ body-bad incoming u e e' s m given piece at h same refuses =
     let b = get_or piece at 0 in
     let (whole, next) = split-at piece at refuses.bad.within in
     let sent = c.sent ++ take at piece in
-    let size = spell_items-length c.items (spell_heads c.heads c.sent) in
+    let size = spell_exchanges-length c.exchanges (spell_heads c.heads c.sent) in
     let heads : length (spell_heads c.heads c.sent) ≡ length c.heads.request.bytes + (length c.heads.response.bytes + length c.sent) =
     simp length-append in
     record {
-      recording = record { items = c.items; tail = cut.BadBody c.heads sent c.body b; more = drop (at + 1) piece };
+      recording = record { exchanges = c.exchanges; tail = cut.BadBody c.heads sent c.body b; more = drop (at + 1) piece };
       cut = record {
-        spells = ap (λ x. x ++ piece) h.spells ∙ spell-more c.items c.heads c.sent piece
-            ∙ ap (λ x. spell_items c.items (spell_heads c.heads x))
+        spells = ap (λ x. x ++ piece) h.spells ∙ spell-more c.exchanges c.heads c.sent piece
+            ∙ ap (λ x. spell_exchanges c.exchanges (spell_heads c.heads x))
             (ap (λ x. c.sent ++ x) (sym whole) ∙ sym (append_assoc c.sent (take at piece) (b ∷ drop (at + 1) piece)));
-        items = h.whole;
+        exchanges = h.whole;
         tail = record {
           sending = record {
             heads = h.sending.heads;
@@ -164,8 +164,8 @@ body-bad incoming u e e' s m given piece at h same refuses =
       };
       stop = ap (λ p. ends.Bad BadChunk p)
           (omega (arith, h.taken, ap length h.spells, size, heads, length-append c.sent (take at piece), length-take-le at piece (omega (arith, refuses.bad.within))));
-      gave = ap (λ w. given ++ gathered_by w) same.writer ∙ h.gave ∙ sym (output-bad s c.items c.heads sent c.body b (drop (at + 1) piece));
-      counts = same.counts ∙ h.common.counts ∙ ap counts_of (sym (rules-bad s c.items c.heads sent c.body b (drop (at + 1) piece)));
+      gave = ap (λ w. given ++ gathered_by w) same.writer ∙ h.gave ∙ sym (output-bad s c.exchanges c.heads sent c.body b (drop (at + 1) piece));
+      counts = same.counts ∙ h.common.counts ∙ ap counts_of (sym (rules-bad s c.exchanges c.heads sent c.body b (drop (at + 1) piece)));
       told = rw same.told h.common.told;
     }
 

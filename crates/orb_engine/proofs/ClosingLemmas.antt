@@ -12,14 +12,14 @@ use Rattle.response_rules.specs.declared.rules.Rule.{Rule}
 use Rattle.orb_engine.specs.declared.settings.Settings.{Settings}
 use Rattle.orb_engine.specs.declared.progress.Counts.{Counts}
 use Rattle.std.proofs.lemmas.List.{append-nil}
-use Rattle.body_filter.specs.Exchanges.{Exchange}
+use Rattle.body_filter.specs.Responses.{Response}
 use Rattle.orb_engine.specs.declared.settings.Job.{Job}
-use Rattle.orb_engine.proofs.OutputLaws.{written_front-whole}
+use Rattle.orb_engine.proofs.OutputLaws.{written_so_far-whole}
 use Rattle.media_state.specs.Table.{admits, keeps}
 use Rattle.media_state.specs.Table.{IsKept, stored}
-use Rattle.orb_engine.specs.Recording.{Item}
-use Rattle.orb_engine.specs.Outputs.{written_front, written_whole}
-use Rattle.orb_engine.specs.Counts.{rules_of_items}
+use Rattle.orb_engine.specs.Recording.{Exchange}
+use Rattle.orb_engine.specs.Outputs.{written_so_far, written_whole}
+use Rattle.orb_engine.specs.Counts.{rules_of_exchanges}
 use Rattle.orb_engine.specs.Reads.{Coming, IsTold, counts_of}
 use Rattle.orb_engine.specs.declared.engine.Engine.{Engine}
 use Rattle.orb_engine.specs.declared.outcome.EngineOutcome.{EngineOutcome}
@@ -43,15 +43,15 @@ stored-keeps table None state = refl
 stored-keeps table (Some id) state = refl
 
 -- its number
-pub number-is : (c : Counts) (items : List Item) → c ≡ counts_of (rules_of_items items) → c.allowed + c.blocked + 1 ≡ length items + 1
-number-is c items is =
-    omega (arith, ap (λ (d : Counts). d.allowed) is, ap (λ (d : Counts). d.blocked) is, count-sum (rules_of_items items), rules-length items)
+pub number-is : (c : Counts) (exchanges : List Exchange) → c ≡ counts_of (rules_of_exchanges exchanges) → c.allowed + c.blocked + 1 ≡ length exchanges + 1
+number-is c exchanges is =
+    omega (arith, ap (λ (d : Counts). d.allowed) is, ap (λ (d : Counts). d.blocked) is, count-sum (rules_of_exchanges exchanges), rules-length exchanges)
 
 -- what was told stays told
-pub told-more : (c : Counts) (s : Settings) (items : List Item) (given pushed : List ℕ) → IsTold c s items given
-    → IsTold c s items (given ++ pushed)
-told-more c s items given pushed told = record {
-  front = told.front;
+pub told-more : (c : Counts) (s : Settings) (exchanges : List Exchange) (given pushed : List ℕ) → IsTold c s exchanges given
+    → IsTold c s exchanges (given ++ pushed)
+told-more c s exchanges given pushed told = record {
+  prefix = told.prefix;
   others = told.others;
   are = told.are;
   numbers = told.numbers;
@@ -66,20 +66,20 @@ the-rule None is = absurd (cc is)
 the-rule (Some r) is = (r, refl)
 
 -- the same answer, of an exchange that may be undecided
-pub as_closes : (r : Result (Unit {0}) EngineOutcome) (place : ℕ) (e : Engine) (s : Settings) (c : Coming) (given : List ℕ)
-    → ClosesDecided r e s c given → Closes r place e s c given
-as_closes (Ok done) place e s c given closed = closed
-as_closes (Err outcome.WriteFault) place e s c given falls = falls
-as_closes (Err outcome.Done) place e s c given never = absurd never
-as_closes (Err (outcome.Bad kind at)) place e s c given never = absurd never
-as_closes (Err (outcome.Cut at)) place e s c given never = absurd never
-as_closes (Err (outcome.HeadLimit at)) place e s c given never = absurd never
-as_closes (Err (outcome.MediaFull at)) place e s c given never = absurd never
-as_closes (Err (outcome.NotBuilt at)) place e s c given never = absurd never
-as_closes (Err outcome.Endless) place e s c given never = absurd never
-as_closes (Err outcome.ReadFault) place e s c given never = absurd never
+pub as_closes : (r : Result (Unit {0}) EngineOutcome) (offset : ℕ) (e : Engine) (s : Settings) (c : Coming) (given : List ℕ)
+    → ClosesDecided r e s c given → Closes r offset e s c given
+as_closes (Ok done) offset e s c given closed = closed
+as_closes (Err outcome.WriteFault) offset e s c given falls = falls
+as_closes (Err outcome.Done) offset e s c given never = absurd never
+as_closes (Err (outcome.Bad kind at)) offset e s c given never = absurd never
+as_closes (Err (outcome.Cut at)) offset e s c given never = absurd never
+as_closes (Err (outcome.HeadLimit at)) offset e s c given never = absurd never
+as_closes (Err (outcome.MediaFull at)) offset e s c given never = absurd never
+as_closes (Err (outcome.NotBuilt at)) offset e s c given never = absurd never
+as_closes (Err outcome.Endless) offset e s c given never = absurd never
+as_closes (Err outcome.ReadFault) offset e s c given never = absurd never
 
-pub front-in-whole : (job : Job) (number : ℕ) (x : Exchange) (m : List ℕ) → IsPrefix (written_front job x m) (written_whole job number x m)
-front-in-whole job number x m =
-    subst (λ (t : List ℕ). IsPrefix (written_front job x m) (written_whole job number x t)) (append-nil m)
-    (written_front-whole job number x m [])
+pub so_far-in-whole : (job : Job) (number : ℕ) (x : Response) (m : List ℕ) → IsPrefix (written_so_far job x m) (written_whole job number x m)
+so_far-in-whole job number x m =
+    subst (λ (t : List ℕ). IsPrefix (written_so_far job x m) (written_whole job number x t)) (append-nil m)
+    (written_so_far-whole job number x m [])

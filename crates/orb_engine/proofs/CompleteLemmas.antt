@@ -9,7 +9,7 @@ use Rattle.orb_engine.specs.declared.engine.Engine.{Engine}
 use Rattle.orb_engine.specs.declared.outcome.EngineOutcome.{EngineOutcome}
 use Rattle.orb_engine.specs.declared.outcome.EngineOutcome.TheVariants.{Done, Endless, ReadFault, WriteFault}
 use Rattle.orb_engine.specs.Recording as cut
-use Rattle.orb_engine.specs.Recording.{Tail, Recording, IsRecording, table_behind, spell_items}
+use Rattle.orb_engine.specs.Recording.{Tail, Recording, IsRecording, table_after_all, spell_exchanges}
 use Rattle.orb_engine.specs.Ends as ends
 use Rattle.orb_engine.specs.Ends.{End, stop_at, stop_of}
 use Rattle.orb_engine.specs.Reads.{IsStop}
@@ -18,14 +18,14 @@ use Rattle.orb_engine.specs.Complete.{IsWholeRecording, IsAll, IsComplete}
 use Rattle.orb_engine.proofs.AnswerLaws.{one-stop, one-output, refusal-alone}
 
 -- no recording is done where more may come
-never_done : (s : Settings) (table : States) (place : ℕ) (t : Tail) → stop_at s table place false t ≡ ends.Done → ⊥
-never_done s table place (cut.Asking []) h = cc
-never_done s table place (cut.Asking (b ∷ head)) h = cc
-never_done s table place _ h = cc
+never_done : (s : Settings) (table : States) (offset : ℕ) (t : Tail) → stop_at s table offset false t ≡ ends.Done → ⊥
+never_done s table offset (cut.InRequestHead []) h = cc
+never_done s table offset (cut.InRequestHead (b ∷ head)) h = cc
+never_done s table offset _ h = cc
 
 open_not_done : (s : Settings) (a : Recording) → stop_of s a false ≡ ends.Done → ⊥
 unfolding stop_of
-open_not_done s a h = never_done s (table_behind finite.empty a.items) (length (spell_items a.items [])) a.tail h
+open_not_done s a h = never_done s (table_after_all finite.empty a.exchanges) (length (spell_exchanges a.exchanges [])) a.tail h
 
 pub front_is_all : (s : Settings) (read rest : List ℕ) (r a : Recording) (ended : Bool)
     → IsWholeRecording s (read ++ rest) r → IsRecording s read a → (ended ≡ true → rest ≡ [])
@@ -71,14 +71,14 @@ pub run_is_complete : (o : EngineOutcome) (e : Engine) (s : Settings) (bytes : L
     → IsWholeRecording s bytes r → Ran o e s (Some bytes) left' given
     → RunCauses o source source' sink sink' → ¬ (Rose source source') → ¬ (Rose sink sink')
     → IsComplete o s r left' given
-run_is_complete o e s bytes r None given m m' n n' whole ran causes calm calm' = absurd ran.lost
-run_is_complete Done e s bytes r (Some rest) given m m' n n' whole ran causes calm calm' =
+run_is_complete o e s bytes r None given m m' n n' whole ran causes no_faults no_faults' = absurd ran.lost
+run_is_complete Done e s bytes r (Some rest) given m m' n n' whole ran causes no_faults no_faults' =
     let h = ran.answers in
     let all = ends_all e s bytes ran.read rest r ran.ended (IsStop Done) given whole ran.lost ran.at_end h (λ o. cc) in
     record { done = refl; left = ap Some all.none_left; wrote = h.gave ∙ all.output }
-run_is_complete Endless e s bytes r (Some rest) given m m' n n' whole ran causes calm calm' =
+run_is_complete Endless e s bytes r (Some rest) given m m' n n' whole ran causes no_faults no_faults' =
     absurd (whole_is_not_endless s bytes ran.read rest r whole ran.lost ran.answers.0)
-run_is_complete ReadFault e s bytes r (Some rest) given m m' n n' whole ran causes calm calm' = absurd (calm causes.0)
-run_is_complete WriteFault e s bytes r (Some rest) given m m' n n' whole ran causes calm calm' = absurd (calm' causes.1)
-run_is_complete o e s bytes r (Some rest) given m m' n n' whole ran causes calm calm' =
+run_is_complete ReadFault e s bytes r (Some rest) given m m' n n' whole ran causes no_faults no_faults' = absurd (no_faults causes.0)
+run_is_complete WriteFault e s bytes r (Some rest) given m m' n n' whole ran causes no_faults no_faults' = absurd (no_faults' causes.1)
+run_is_complete o e s bytes r (Some rest) given m m' n n' whole ran causes no_faults no_faults' =
     absurd (ends_no_other e s bytes ran.read rest r ran.ended (IsStop o) given whole ran.lost ran.at_end ran.answers (λ x. cc) (λ x. cc))

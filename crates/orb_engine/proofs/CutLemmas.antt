@@ -8,10 +8,10 @@ use Rattle.response_rules.specs.declared.rules.Rule.{Rule}
 use Rattle.response_rules.specs.Rules.{is_allowing}
 use Rattle.orb_engine.specs.declared.settings.Settings.{Settings}
 use Rattle.orb_engine.specs.declared.progress.Counts.{Counts}
-use Rattle.orb_engine.specs.Heads.{exchange_of}
-use Rattle.orb_engine.specs.Recording.{Item, IsItem, AreItems, spell_item, spell_items, table_after, table_behind}
-use Rattle.orb_engine.specs.Outputs.{written_items, written_whole}
-use Rattle.orb_engine.specs.Counts.{rules_of_items, count_allowed, count_blocked}
+use Rattle.orb_engine.specs.Heads.{response_of}
+use Rattle.orb_engine.specs.Recording.{Exchange, IsExchange, AreExchanges, spell_exchange, spell_exchanges, table_after, table_after_all}
+use Rattle.orb_engine.specs.Outputs.{written_exchanges, written_whole}
+use Rattle.orb_engine.specs.Counts.{rules_of_exchanges, count_allowed, count_blocked}
 use Rattle.orb_engine.specs.Progress.{count_with}
 use Rattle.orb_engine.specs.Reads.{counts_of}
 use Rattle.http_exchange.proofs.EndLemmas.{head_length-bounds}
@@ -19,46 +19,46 @@ use Rattle.http_exchange.proofs.EndLemmas.{head_length-bounds}
 pair : (a b c d : ℕ) → a ≡ c → b ≡ d → ◌≡◌ {A = Counts} (record { allowed = a; blocked = b }) (record { allowed = c; blocked = d })
 pair a b c d p q = rw (p, q) refl
 
-spell_heads-append : (i : Item) (x u : List ℕ) → spell_item i x ++ u ≡ spell_item i (x ++ u)
+spell_heads-append : (i : Exchange) (x u : List ℕ) → spell_exchange i x ++ u ≡ spell_exchange i (x ++ u)
 spell_heads-append i x u = simp append_assoc
 
-pub spell_items-append : (items : List Item) (x u : List ℕ) → spell_items items x ++ u ≡ spell_items items (x ++ u)
-spell_items-append [] x u = refl
-spell_items-append (i ∷ items) x u = spell_heads-append i (spell_items items x) u ∙ ap (spell_item i) (spell_items-append items x u)
+pub spell_exchanges-append : (exchanges : List Exchange) (x u : List ℕ) → spell_exchanges exchanges x ++ u ≡ spell_exchanges exchanges (x ++ u)
+spell_exchanges-append [] x u = refl
+spell_exchanges-append (i ∷ exchanges) x u = spell_heads-append i (spell_exchanges exchanges x) u ∙ ap (spell_exchange i) (spell_exchanges-append exchanges x u)
 
-pub spell_items-length : (items : List Item) (x : List ℕ) → length (spell_items items x) ≡ length (spell_items items []) + length x
-spell_items-length items x = ap length (sym (spell_items-append items [] x)) ∙ length-append (spell_items items []) x
+pub spell_exchanges-length : (exchanges : List Exchange) (x : List ℕ) → length (spell_exchanges exchanges x) ≡ length (spell_exchanges exchanges []) + length x
+spell_exchanges-length exchanges x = ap length (sym (spell_exchanges-append exchanges [] x)) ∙ length-append (spell_exchanges exchanges []) x
 
-pub spell_items-snoc : (items : List Item) (i : Item) (x : List ℕ) → spell_items (items ++ (i ∷ [])) x ≡ spell_items items (spell_item i x)
-spell_items-snoc [] i x = refl
-spell_items-snoc (j ∷ items) i x = ap (spell_item j) (spell_items-snoc items i x)
+pub spell_exchanges-snoc : (exchanges : List Exchange) (i : Exchange) (x : List ℕ) → spell_exchanges (exchanges ++ (i ∷ [])) x ≡ spell_exchanges exchanges (spell_exchange i x)
+spell_exchanges-snoc [] i x = refl
+spell_exchanges-snoc (j ∷ exchanges) i x = ap (spell_exchange j) (spell_exchanges-snoc exchanges i x)
 
-pub table-snoc : (table : States) (items : List Item) (i : Item) → table_behind table (items ++ (i ∷ [])) ≡ table_after (table_behind table items) i
+pub table-snoc : (table : States) (exchanges : List Exchange) (i : Exchange) → table_after_all table (exchanges ++ (i ∷ [])) ≡ table_after (table_after_all table exchanges) i
 table-snoc table [] i = refl
-table-snoc table (j ∷ items) i = table-snoc (table_after table j) items i
+table-snoc table (j ∷ exchanges) i = table-snoc (table_after table j) exchanges i
 
-pub items-snoc : (s : Settings) (table : States) (items : List Item) (i : Item) → AreItems s table items
-    → IsItem s (table_behind table items) i → AreItems s table (items ++ (i ∷ []))
-items-snoc s table [] i are is = (is, tt)
-items-snoc s table (j ∷ items) i are is = (are.0, items-snoc s (table_after table j) items i are.1 is)
+pub exchanges-snoc : (s : Settings) (table : States) (exchanges : List Exchange) (i : Exchange) → AreExchanges s table exchanges
+    → IsExchange s (table_after_all table exchanges) i → AreExchanges s table (exchanges ++ (i ∷ []))
+exchanges-snoc s table [] i are is = (is, tt)
+exchanges-snoc s table (j ∷ exchanges) i are is = (are.0, exchanges-snoc s (table_after table j) exchanges i are.1 is)
 
-pub written-snoc : (s : Settings) (table : States) (n : ℕ) (items : List Item) (i : Item)
-    → written_items s table n (items ++ (i ∷ []))
-    ≡ written_items s table n items ++ written_whole s.job ((n + length items) + 1) (exchange_of s (table_behind table items) i.heads) i.body
+pub written-snoc : (s : Settings) (table : States) (n : ℕ) (exchanges : List Exchange) (i : Exchange)
+    → written_exchanges s table n (exchanges ++ (i ∷ []))
+    ≡ written_exchanges s table n exchanges ++ written_whole s.job ((n + length exchanges) + 1) (response_of s (table_after_all table exchanges) i.heads) i.body
 written-snoc s table n [] i =
-    let place : n + 1 ≡ (n + 0) + 1 = omega arith in
-    append-nil (written_whole s.job (n + 1) (exchange_of s table i.heads) i.body)
-    ∙ ap (λ k. written_whole s.job k (exchange_of s table i.heads) i.body) place
-written-snoc s table n (j ∷ items) i =
-    let place : ((n + 1) + length items) + 1 ≡ (n + length (j ∷ items)) + 1 = omega arith in
-    ap (λ t. written_whole s.job (n + 1) (exchange_of s table j.heads) j.body ++ t)
-    (written-snoc s (table_after table j) (n + 1) items i
-    ∙ ap (λ k. written_items s (table_after table j) (n + 1) items ++ written_whole s.job k (exchange_of s (table_behind (table_after table j) items) i.heads) i.body) place)
-    ∙ sym (append_assoc (written_whole s.job (n + 1) (exchange_of s table j.heads) j.body) (written_items s (table_after table j) (n + 1) items) _)
+    let offset : n + 1 ≡ (n + 0) + 1 = omega arith in
+    append-nil (written_whole s.job (n + 1) (response_of s table i.heads) i.body)
+    ∙ ap (λ k. written_whole s.job k (response_of s table i.heads) i.body) offset
+written-snoc s table n (j ∷ exchanges) i =
+    let offset : ((n + 1) + length exchanges) + 1 ≡ (n + length (j ∷ exchanges)) + 1 = omega arith in
+    ap (λ t. written_whole s.job (n + 1) (response_of s table j.heads) j.body ++ t)
+    (written-snoc s (table_after table j) (n + 1) exchanges i
+    ∙ ap (λ k. written_exchanges s (table_after table j) (n + 1) exchanges ++ written_whole s.job k (response_of s (table_after_all (table_after table j) exchanges) i.heads) i.body) offset)
+    ∙ sym (append_assoc (written_whole s.job (n + 1) (response_of s table j.heads) j.body) (written_exchanges s (table_after table j) (n + 1) exchanges) _)
 
-pub rules-snoc : (items : List Item) (i : Item) → rules_of_items (items ++ (i ∷ [])) ≡ rules_of_items items ++ (i.rule ∷ [])
+pub rules-snoc : (exchanges : List Exchange) (i : Exchange) → rules_of_exchanges (exchanges ++ (i ∷ [])) ≡ rules_of_exchanges exchanges ++ (i.rule ∷ [])
 rules-snoc [] i = refl
-rules-snoc (j ∷ items) i = ap (λ t. j.rule ∷ t) (rules-snoc items i)
+rules-snoc (j ∷ exchanges) i = ap (λ t. j.rule ∷ t) (rules-snoc exchanges i)
 
 count-cons : (p : Rule → Bool) (r : Rule) (rules : List Rule) → count_by p (r ∷ rules) ≡ cond (p r) 1 0 + count_by p rules
 count-cons p r rules = sum_by-cons (λ x. cond (p x) 1 0) r rules
@@ -88,15 +88,15 @@ counts-snoc rules r =
     by true m n a b = rw (a, b) (pair _ _ _ _ (omega arith) (omega arith))
     by false m n a b = rw (a, b) (pair _ _ _ _ (omega arith) (omega arith))
 
-pub rules-length : (items : List Item) → length (rules_of_items items) ≡ length items
+pub rules-length : (exchanges : List Exchange) → length (rules_of_exchanges exchanges) ≡ length exchanges
 rules-length [] = refl
-rules-length (i ∷ items) = ap suc (rules-length items)
+rules-length (i ∷ exchanges) = ap suc (rules-length exchanges)
 
 -- each exchange has some bytes
-pub items-few : (s : Settings) (table : States) (items : List Item) (x : List ℕ) → AreItems s table items
-    → length items ≤ length (spell_items items x)
-items-few s table [] x are = omega arith
-items-few s table (i ∷ items) x are =
-    let rest = items-few s (table_after table i) items x are.1 in
+pub exchanges-few : (s : Settings) (table : States) (exchanges : List Exchange) (x : List ℕ) → AreExchanges s table exchanges
+    → length exchanges ≤ length (spell_exchanges exchanges x)
+exchanges-few s table [] x are = omega arith
+exchanges-few s table (i ∷ exchanges) x are =
+    let rest = exchanges-few s (table_after table i) exchanges x are.1 in
     let some = head_length-bounds i.heads.request.bytes (length i.heads.request.bytes) are.0.heads.request.head.text.ends in
     simp length-append (omega arith)

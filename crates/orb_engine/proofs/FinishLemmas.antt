@@ -3,7 +3,7 @@ use Rattle.std.proofs.Common.{◌≡◌, ℕ, ◌+◌, ◌^◌, ◌<◌, ◌≤�
 use Rattle.std.specs.FinMap as map
 use Rattle.std.proofs.lemmas.List.{append-nil}
 use Rattle.response_rules.specs.Tables.{window_rule_of}
-use Rattle.body_filter.specs.Exchanges.{Exchange, whole_of}
+use Rattle.body_filter.specs.Responses.{Response, whole_output}
 use Rattle.orb_engine.specs.declared.settings.Settings.{Settings}
 use Rattle.orb_engine.specs.declared.settings.Job.{Job}
 use Rattle.orb_engine.specs.declared.settings.Job.TheVariants as job
@@ -14,98 +14,98 @@ use Rattle.orb_engine.specs.declared.outcome.EngineOutcome.{EngineOutcome}
 use Rattle.orb_engine.specs.declared.outcome.EngineOutcome.TheVariants as outcome
 use Rattle.orb_engine.specs.Heads.{Heads, is_to_end, judged_by}
 use Rattle.orb_engine.specs.Recording as cut
-use Rattle.orb_engine.specs.Recording.{Item, IsRecording, spell_heads, spell_items}
+use Rattle.orb_engine.specs.Recording.{Exchange, IsRecording, spell_heads, spell_exchanges}
 use Rattle.orb_engine.specs.Ends as ends
 use Rattle.orb_engine.specs.Ends.{stop_of}
-use Rattle.orb_engine.specs.Outputs.{output_of, written_items, written_front, written_whole}
-use Rattle.orb_engine.specs.Counts.{rules_of, rules_of_items}
+use Rattle.orb_engine.specs.Outputs.{output_of, written_exchanges, written_so_far, written_whole}
+use Rattle.orb_engine.specs.Counts.{rules_of, rules_of_exchanges}
 use Rattle.http_exchange.specs.HeadTexts.{IsOpenHead}
 use Rattle.orb_engine.specs.Reads.{open_cut, table_of, counts_of, coming_response, Stops, Halts, HasRequest, HasResponse}
 use Rattle.orb_engine.specs.Closing.{Closes, IsClosing}
-use Rattle.orb_engine.proofs.OutputLaws.{written_front-undecided}
+use Rattle.orb_engine.proofs.OutputLaws.{written_so_far-undecided}
 use Rattle.orb_engine.proofs.BodyStepLemmas.{HasOpenBody}
 use Rattle.orb_engine.proofs.FillLemmas.{few-exchanges}
 use Rattle.orb_engine.proofs.HeadStepLemmas.{quiet-stops}
 
--- how the recording ends behind a body that was closed
+-- how the recording ends after a body that was closed
 abbrev pub done_or : Result (Unit {0}) EngineOutcome → EngineOutcome
 done_or (Ok done) = outcome.Done
 done_or (Err stop) = stop
 
 request-cut : (e : Engine) (s : Settings) (m given head : List ℕ) (h : HasRequest IsOpenHead e s m given) → h.head ≡ head
-    → IsRecording s m (open_cut h.items (cut.Asking head))
+    → IsRecording s m (open_cut h.exchanges (cut.InRequestHead head))
 request-cut e s m given head h is = record {
-  spells = h.spells ∙ ap (spell_items h.items) (is ∙ sym (append-nil head));
-  items = h.whole;
+  spells = h.spells ∙ ap (spell_exchanges h.exchanges) (is ∙ sym (append-nil head));
+  exchanges = h.whole;
   tail = rw (← is) h.text;
   last = λ _. refl;
 }
 
 -- between two exchanges
-pub asking-done : (e : Engine) (s : Settings) (m given : List ℕ) → HasRequest IsOpenHead e s m given → e.head ≡ []
+pub request_head-done : (e : Engine) (s : Settings) (m given : List ℕ) → HasRequest IsOpenHead e s m given → e.head ≡ []
     → Stops outcome.Done e s m true given
 unfolding stop_of
-asking-done e s m given h empty =
-    quiet-stops outcome.Done e s m given true h.items (cut.Asking []) [] (request-cut e s m given [] h (sym h.buffer ∙ empty)) refl refl refl
+request_head-done e s m given h empty =
+    quiet-stops outcome.Done e s m given true h.exchanges (cut.InRequestHead []) [] (request-cut e s m given [] h (sym h.buffer ∙ empty)) refl refl refl
     h.gave h.common.counts h.common.told
 
 -- in a request head
-pub asking-cut : (e : Engine) (s : Settings) (m given : List ℕ) → HasRequest IsOpenHead e s m given → (e.head ≡ [] → ⊥)
-    → Stops (outcome.Cut e.progress.place) e s m true given
+pub request_head-cut : (e : Engine) (s : Settings) (m given : List ℕ) → HasRequest IsOpenHead e s m given → (e.head ≡ [] → ⊥)
+    → Stops (outcome.Cut e.progress.offset) e s m true given
 unfolding stop_of
-asking-cut e s m given h some = by h.head refl
+request_head-cut e s m given h some = by h.head refl
   where
-    by : (head : List ℕ) → h.head ≡ head → Stops (outcome.Cut e.progress.place) e s m true given
+    by : (head : List ℕ) → h.head ≡ head → Stops (outcome.Cut e.progress.offset) e s m true given
     by [] is = absurd (some (h.buffer ∙ is))
     by (b ∷ head) is =
-        quiet-stops (outcome.Cut e.progress.place) e s m given true h.items (cut.Asking (b ∷ head)) [] (request-cut e s m given (b ∷ head) h is) refl refl
-        (ap (λ p. ends.Cut p) (sym h.common.place)) h.gave h.common.counts h.common.told
+        quiet-stops (outcome.Cut e.progress.offset) e s m given true h.exchanges (cut.InRequestHead (b ∷ head)) [] (request-cut e s m given (b ∷ head) h is) refl refl
+        (ap (λ p. ends.Cut p) (sym h.common.offset)) h.gave h.common.counts h.common.told
 
 -- in a response head
-pub answering-cut : (asked : Asked) (e : Engine) (s : Settings) (m given : List ℕ) → HasResponse IsOpenHead asked e s m given
-    → Stops (outcome.Cut e.progress.place) e s m true given
+pub response_head-cut : (asked : Asked) (e : Engine) (s : Settings) (m given : List ℕ) → HasResponse IsOpenHead asked e s m given
+    → Stops (outcome.Cut e.progress.offset) e s m true given
 unfolding stop_of
-answering-cut asked e s m given h =
-    quiet-stops (outcome.Cut e.progress.place) e s m given true h.items (cut.Answering h.request h.head) [] (record {
-      spells = h.spells ∙ ap (λ x. spell_items h.items (h.request.bytes ++ x)) (sym (append-nil h.head));
-      items = h.whole;
+response_head-cut asked e s m given h =
+    quiet-stops (outcome.Cut e.progress.offset) e s m given true h.exchanges (cut.InResponseHead h.request h.head) [] (record {
+      spells = h.spells ∙ ap (λ x. spell_exchanges h.exchanges (h.request.bytes ++ x)) (sym (append-nil h.head));
+      exchanges = h.whole;
       tail = (h.good, h.text);
       last = λ _. refl;
-    }) refl refl (ap (λ p. ends.Cut p) (sym h.common.place)) h.gave h.common.counts h.common.told
+    }) refl refl (ap (λ p. ends.Cut p) (sym h.common.offset)) h.gave h.common.counts h.common.told
 
 body-cut : (incoming : Incoming) (e : Engine) (s : Settings) (m given : List ℕ) (h : HasOpenBody incoming e s m given)
-    → IsRecording s m (open_cut h.coming.items (cut.Sending h.coming.heads h.coming.sent h.coming.body))
+    → IsRecording s m (open_cut h.coming.exchanges (cut.InBody h.coming.heads h.coming.sent h.coming.body))
 body-cut incoming e s m given h = record {
-  spells = h.spells ∙ ap (λ x. spell_items h.coming.items (spell_heads h.coming.heads x)) (sym (append-nil h.coming.sent));
-  items = h.whole;
+  spells = h.spells ∙ ap (λ x. spell_exchanges h.coming.exchanges (spell_heads h.coming.heads x)) (sym (append-nil h.coming.sent));
+  exchanges = h.whole;
   tail = h.sending;
   last = λ _. refl;
 }
 
-rules-framed : (s : Settings) (items : List Item) (h : Heads) (sent body : List ℕ) → is_to_end h.response.frame ≡ false
-    → rules_of s (open_cut items (cut.Sending h sent body)) true ≡ rules_of_items items
+rules-framed : (s : Settings) (exchanges : List Exchange) (h : Heads) (sent body : List ℕ) → is_to_end h.response.frame ≡ false
+    → rules_of s (open_cut exchanges (cut.InBody h sent body)) true ≡ rules_of_exchanges exchanges
 unfolding rules_of
-rules-framed s items h sent body is = rw is (append-nil _)
+rules-framed s exchanges h sent body is = rw is (append-nil _)
 
-rules-unended : (s : Settings) (items : List Item) (h : Heads) (sent body : List ℕ) → is_to_end h.response.frame ≡ true
-    → window_rule_of (judged_by s (table_of items) h) body ≡ None
-    → rules_of s (open_cut items (cut.Sending h sent body)) true ≡ rules_of_items items
+rules-unended : (s : Settings) (exchanges : List Exchange) (h : Heads) (sent body : List ℕ) → is_to_end h.response.frame ≡ true
+    → window_rule_of (judged_by s (table_of exchanges) h) body ≡ None
+    → rules_of s (open_cut exchanges (cut.InBody h sent body)) true ≡ rules_of_exchanges exchanges
 unfolding rules_of
-rules-unended s items h sent body is none = rw (is, none) (append-nil _)
+rules-unended s exchanges h sent body is none = rw (is, none) (append-nil _)
 
 -- in a body that has an end of its own
-pub sending-cut : (incoming : Incoming) (e : Engine) (s : Settings) (m given : List ℕ) → HasOpenBody incoming e s m given
-    → incoming.to_end ≡ false → Stops (outcome.Cut e.progress.place) e s m true given
+pub open_body-cut : (incoming : Incoming) (e : Engine) (s : Settings) (m given : List ℕ) → HasOpenBody incoming e s m given
+    → incoming.to_end ≡ false → Stops (outcome.Cut e.progress.offset) e s m true given
 unfolding stop_of output_of rules_of
-sending-cut incoming e s m given h framed =
+open_body-cut incoming e s m given h framed =
     let c = h.coming in
     let to_end : is_to_end c.heads.response.frame ≡ false = sym h.receives.to_end ∙ framed in
     record {
-      recording = open_cut c.items (cut.Sending c.heads c.sent c.body);
+      recording = open_cut c.exchanges (cut.InBody c.heads c.sent c.body);
       cut = body-cut incoming e s m given h;
-      stop = rw to_end (ap (λ p. ends.Cut p) (sym h.common.place));
+      stop = rw to_end (ap (λ p. ends.Cut p) (sym h.common.offset));
       gave = h.gave ∙ rw to_end refl;
-      counts = h.common.counts ∙ ap counts_of (sym (rules-framed s c.items c.heads c.sent c.body to_end));
+      counts = h.common.counts ∙ ap counts_of (sym (rules-framed s c.exchanges c.heads c.sent c.body to_end));
       told = h.common.told;
     }
 
@@ -135,20 +135,20 @@ closing-few incoming e s m given h fits =
       receives = h.receives;
     }) fits
 
-none-written : (j : Job) (n : ℕ) (x : Exchange) (m : List ℕ) → window_rule_of x.head m ≡ None → written_whole j n x m ≡ []
-unfolding written_whole whole_of
+none-written : (j : Job) (n : ℕ) (x : Response) (m : List ℕ) → window_rule_of x.head m ≡ None → written_whole j n x m ≡ []
+unfolding written_whole whole_output
 none-written job.Filter n x m none = rw none refl
 none-written job.Explain n x m none = rw none refl
 
 -- a body that the end of the input ends
 pub ended-body : (r : Result (Unit {0}) EngineOutcome) (incoming : Incoming) (e e' : Engine) (s : Settings) (m given given' : List ℕ)
-    (h : HasOpenBody incoming e s m given) → incoming.to_end ≡ true → Closes r incoming.place e' s h.coming given'
+    (h : HasOpenBody incoming e s m given) → incoming.to_end ≡ true → Closes r incoming.offset e' s h.coming given'
     → Halts (done_or r) e' s m true given'
 unfolding stop_of output_of rules_of
 ended-body (Ok done) incoming e e' s m given given' h to_end closed =
     let is : is_to_end h.coming.heads.response.frame ≡ true = sym h.receives.to_end ∙ to_end in
     record {
-      recording = open_cut h.coming.items (cut.Sending h.coming.heads h.coming.sent h.coming.body);
+      recording = open_cut h.coming.exchanges (cut.InBody h.coming.heads h.coming.sent h.coming.body);
       cut = body-cut incoming e s m given h;
       stop = rw (is, closed.decided) refl;
       gave = closed.gave ∙ rw is refl;
@@ -160,15 +160,15 @@ ended-body (Err (outcome.NotBuilt at)) incoming e e' s m given given' h to_end c
     let u = closed.1 in
     let is : is_to_end c.heads.response.frame ≡ true = sym h.receives.to_end ∙ to_end in
     let x = coming_response s c in
-    let silent : written_front s.job x c.body ≡ [] =
-    written_front-undecided s.job x c.body [] (ap (window_rule_of (judged_by s (table_of c.items) c.heads)) (append-nil c.body) ∙ u.none) in
+    let silent : written_so_far s.job x c.body ≡ [] =
+    written_so_far-undecided s.job x c.body [] (ap (window_rule_of (judged_by s (table_of c.exchanges) c.heads)) (append-nil c.body) ∙ u.none) in
     record {
-      recording = open_cut c.items (cut.Sending c.heads c.sent c.body);
+      recording = open_cut c.exchanges (cut.InBody c.heads c.sent c.body);
       cut = body-cut incoming e s m given h;
-      stop = rw (is, u.none, closed.0) (ap (λ p. ends.NotBuilt p) (sym h.receives.place));
-      gave = u.gave ∙ ap (λ t. written_items s map.empty 0 c.items ++ t) silent
-          ∙ rw is (ap (λ t. written_items s map.empty 0 c.items ++ t) (sym (none-written s.job (length c.items + 1) x c.body u.none)));
-      counts = u.common.counts ∙ ap counts_of (sym (rules-unended s c.items c.heads c.sent c.body is u.none));
+      stop = rw (is, u.none, closed.0) (ap (λ p. ends.NotBuilt p) (sym h.receives.offset));
+      gave = u.gave ∙ ap (λ t. written_exchanges s map.empty 0 c.exchanges ++ t) silent
+          ∙ rw is (ap (λ t. written_exchanges s map.empty 0 c.exchanges ++ t) (sym (none-written s.job (length c.exchanges + 1) x c.body u.none)));
+      counts = u.common.counts ∙ ap counts_of (sym (rules-unended s c.exchanges c.heads c.sent c.body is u.none));
       told = u.common.told;
     }
 ended-body (Err outcome.WriteFault) incoming e e' s m given given' h to_end falls =
@@ -178,7 +178,7 @@ ended-body (Err outcome.WriteFault) incoming e e' s m given given' h to_end fall
       unseen = [];
       all = sym (append-nil m);
       all_seen = λ _. refl;
-      recording = open_cut h.coming.items (cut.Sending h.coming.heads h.coming.sent h.coming.body);
+      recording = open_cut h.coming.exchanges (cut.InBody h.coming.heads h.coming.sent h.coming.body);
       cut = body-cut incoming e s m given h;
       within = rw is falls.within;
       told = falls.told;

@@ -1,4 +1,4 @@
--- What goes out behind a piece.
+-- What goes out after a piece.
 use Rattle.std.proofs.Common.{◌≡◌, ℕ, ◌^◌, ◌≤◌, Bool, true, false, List, [], ◌++◌, refl, sym, ap, subst, ◌∙◌}
 use Rattle.std.specs.FinMap as map
 use Rattle.std.proofs.lemmas.List.{append-nil}
@@ -17,25 +17,25 @@ use Rattle.orb_engine.specs.declared.outcome.EngineOutcome.{EngineOutcome}
 use Rattle.orb_engine.specs.declared.outcome.EngineOutcome.TheVariants as outcome
 use Rattle.orb_io.specs.Outboxes.{OutboxState, empty_outbox}
 use Rattle.orb_engine.specs.Workers.{IsWorkerFor, Works}
-use Rattle.orb_engine.specs.Heads.{exchange_of}
+use Rattle.orb_engine.specs.Heads.{response_of}
 use Rattle.orb_engine.specs.Recording as cut
-use Rattle.orb_engine.specs.Recording.{Item, Tail, Recording, is_open}
-use Rattle.orb_engine.specs.Outputs.{output_of, written_items}
-use Rattle.orb_engine.specs.Counts.{rules_of, rules_of_items, rules_of_tail}
+use Rattle.orb_engine.specs.Recording.{Exchange, Tail, Recording, is_open}
+use Rattle.orb_engine.specs.Outputs.{output_of, written_exchanges}
+use Rattle.orb_engine.specs.Counts.{rules_of, rules_of_exchanges, rules_of_tail}
 use Rattle.orb_engine.specs.Writing.{IsSameBut, IsWriterFor, box_of, gathered_by}
 use Rattle.orb_engine.specs.Reads.{open_cut, table_of, counts_of, IsTold, Stands, IsStop, Reads, Stops, Breaks, Halts}
 use Rattle.orb_engine.specs.Ends.{Open}
-use Rattle.orb_engine.specs.Runs.{HasCounted, HasCountedFront, HasRead, Ends, Fails, EndsAs}
+use Rattle.orb_engine.specs.Runs.{HasCounted, HasCountedPrefix, HasRead, Ends, Fails, EndsAs}
 use Rattle.orb_engine.proofs.AnswerLaws.{opens-stop}
 
 -- the counts of whole exchanges, by verdict
 counted : (e : Engine) (s : Settings) (r : Recording) (ended : Bool) → e.progress.counts ≡ counts_of (rules_of s r ended) → HasCounted e s r ended
 counted e s r ended is = record { allowed = ap (λ (c : Counts). c.allowed) is; blocked = ap (λ (c : Counts). c.blocked) is }
 
-counted-front : (e : Engine) (s : Settings) (items : List Item) (wrote more : List ℕ) → IsTold e.progress.counts s items wrote
-    → HasCountedFront e s items (wrote ++ more)
-counted-front e s items wrote more told = record {
-  front = told.front;
+counted-prefix : (e : Engine) (s : Settings) (exchanges : List Exchange) (wrote more : List ℕ) → IsTold e.progress.counts s exchanges wrote
+    → HasCountedPrefix e s exchanges (wrote ++ more)
+counted-prefix e s exchanges wrote more told = record {
+  prefix = told.prefix;
   others = told.others;
   are = told.are;
   allowed = ap (λ (c : Counts). c.allowed) told.numbers;
@@ -67,7 +67,7 @@ stops-broken o e e' s m given ended more stops counts within = record {
   recording = stops.recording;
   cut = stops.cut;
   within = subst (λ (t : List ℕ). IsPrefix (given ++ more) t) stops.gave within;
-  counted = counted-front e' s stops.recording.items given more (rw counts stops.told);
+  counted = counted-prefix e' s stops.recording.exchanges given more (rw counts stops.told);
 }
 
 -- a fault before, after which nothing is pushed
@@ -81,8 +81,8 @@ breaks-fail e e' s m ended given broken counts = record {
   recording = broken.recording;
   cut = broken.cut;
   within = broken.within;
-  counted = subst (λ (t : List ℕ). HasCountedFront e' s broken.recording.items t) (append-nil given)
-      (counted-front e' s broken.recording.items given [] (rw counts broken.told));
+  counted = subst (λ (t : List ℕ). HasCountedPrefix e' s broken.recording.exchanges t) (append-nil given)
+      (counted-prefix e' s broken.recording.exchanges given [] (rw counts broken.told));
 }
 
 -- the answer after a flush
@@ -112,14 +112,14 @@ as-stops outcome.Endless e s m ended given never h = h
 as-stops outcome.ReadFault e s m ended given never h = h
 
 -- an open tail adds no exchange
-open-rules : (s : Settings) (items : List Item) (t : Tail) → is_open t ≡ true → rules_of s (open_cut items t) false ≡ rules_of_items items
+open-rules : (s : Settings) (exchanges : List Exchange) (t : Tail) → is_open t ≡ true → rules_of s (open_cut exchanges t) false ≡ rules_of_exchanges exchanges
 unfolding rules_of
-open-rules s items t is = ap (λ x. rules_of_items items ++ x) (none t) ∙ append-nil _
+open-rules s exchanges t is = ap (λ x. rules_of_exchanges exchanges ++ x) (none t) ∙ append-nil _
   where
-    none : (t : Tail) → rules_of_tail s (table_of items) false t ≡ []
-    none (cut.Asking head) = refl
-    none (cut.Answering r head) = refl
-    none (cut.Sending h sent body) = refl
+    none : (t : Tail) → rules_of_tail s (table_of exchanges) false t ≡ []
+    none (cut.InRequestHead head) = refl
+    none (cut.InResponseHead r head) = refl
+    none (cut.InBody h sent body) = refl
     none (cut.LongRequest head) = refl
     none (cut.BadRequest head kind) = refl
     none (cut.FullTable r) = refl
@@ -128,29 +128,29 @@ open-rules s items t is = ap (λ x. rules_of_items items ++ x) (none t) ∙ appe
     none (cut.BadBody h sent body b) = refl
     none (cut.Undecided h sent body) = refl
 
-items-front : (s : Settings) (items : List Item) (t : Tail) → IsPrefix (written_items s map.empty 0 items) (output_of s (open_cut items t) false)
+exchanges-front : (s : Settings) (exchanges : List Exchange) (t : Tail) → IsPrefix (written_exchanges s map.empty 0 exchanges) (output_of s (open_cut exchanges t) false)
 unfolding output_of
-items-front s items t = IsPrefix-append _ _
+exchanges-front s exchanges t = IsPrefix-append _ _
 
 works-same : (w w' : Writer) (s : Settings) → IsSameBut w w' → box_of w' ≡ empty_outbox → IsWriterFor w s → IsWriterFor w' s
 works-same w w' s same empty for = record {
   worker = subst (λ (v : Worker). IsWorkerFor v s) (sym same.worker) for.worker;
-  calm = ap (λ (b : OutboxState). b.faults) empty;
+  no_faults = ap (λ (b : OutboxState). b.faults) empty;
 }
 
 -- a flush changes nothing of where the engine stands
-pub stands-flushed : (t : State) (e e' : Engine) (s : Settings) (items : List Item) (tail : Tail) → Stands t e s items tail
+pub stands-flushed : (t : State) (e e' : Engine) (s : Settings) (exchanges : List Exchange) (tail : Tail) → Stands t e s exchanges tail
     → e'.head ≡ e.head → e'.media ≡ e.media → IsSameBut e.writer e'.writer → box_of e'.writer ≡ empty_outbox
-    → Stands t e' s items tail
-stands-flushed state.Idle e e' s items tail h head media same empty = absurd h
-stands-flushed state.RequestHead e e' s items tail h head media same empty = record {
+    → Stands t e' s exchanges tail
+stands-flushed state.Idle e e' s exchanges tail h head media same empty = absurd h
+stands-flushed state.RequestHead e e' s exchanges tail h head media same empty = record {
   head = h.head;
   is = h.is;
   text = head ∙ h.text;
   media = media ∙ h.media;
   writer = works-same e.writer e'.writer s same empty h.writer;
 }
-stands-flushed (state.ResponseHead asked) e e' s items tail h head media same empty = record {
+stands-flushed (state.ResponseHead asked) e e' s exchanges tail h head media same empty = record {
   request = h.request;
   head = h.head;
   is = h.is;
@@ -159,9 +159,9 @@ stands-flushed (state.ResponseHead asked) e e' s items tail h head media same em
   writer = works-same e.writer e'.writer s same empty h.writer;
   asks = h.asks;
   state = h.state;
-  place = h.place;
+  offset = h.offset;
 }
-stands-flushed (state.Body incoming) e e' s items tail h head media same empty = record {
+stands-flushed (state.Body incoming) e e' s exchanges tail h head media same empty = record {
   heads = h.heads;
   sent = h.sent;
   body = h.body;
@@ -169,15 +169,15 @@ stands-flushed (state.Body incoming) e e' s items tail h head media same empty =
   receives = record {
     unframer = h.receives.unframer;
     writer = record {
-      works = subst (λ (v : Worker). Works v s (exchange_of s (table_of items) h.heads) h.body) (sym same.worker) h.receives.writer.works;
-      calm = ap (λ (b : OutboxState). b.faults) empty;
+      works = subst (λ (v : Worker). Works v s (response_of s (table_of exchanges) h.heads) h.body) (sym same.worker) h.receives.writer.works;
+      no_faults = ap (λ (b : OutboxState). b.faults) empty;
       head = same.head ∙ h.receives.writer.head;
       body = same.body ∙ h.receives.writer.body;
     };
     media = media ∙ h.receives.media;
     id = h.receives.id;
     to_end = h.receives.to_end;
-    place = h.receives.place;
+    offset = h.receives.offset;
   };
 }
 
@@ -187,7 +187,7 @@ pub reads-flushed : (e e' : Engine) (s : Settings) (m given all : List ℕ) → 
     → all ≡ given ++ gathered_by e.writer → box_of e'.writer ≡ empty_outbox
     → Ends e' s m false (λ stop. stop ≡ Open) all × HasRead e' s m all
 reads-flushed e e' s m given all r few head media same state_ progress gave empty =
-    let recording = open_cut r.items r.tail in
+    let recording = open_cut r.exchanges r.tail in
     let out : all ≡ output_of s recording false = gave ∙ r.gave in
     let counts = ap (λ (p : Progress). p.counts) progress in
     let taken = ap (λ (p : Progress). p.taken) progress in (
@@ -196,11 +196,11 @@ reads-flushed e e' s m given all r few head media same state_ progress gave empt
         cut = r.cut;
         stop = (opens-stop s recording).1 r.open_;
         gave = out;
-        counted = counted e' s recording false (counts ∙ r.common.counts ∙ ap counts_of (sym (open-rules s r.items r.tail r.open_)));
+        counted = counted e' s recording false (counts ∙ r.common.counts ∙ ap counts_of (sym (open-rules s r.exchanges r.tail r.open_)));
       },
       record {
         reads = record {
-          items = r.items;
+          exchanges = r.exchanges;
           tail = r.tail;
           cut = r.cut;
           open_ = r.open_;
@@ -208,18 +208,18 @@ reads-flushed e e' s m given all r few head media same state_ progress gave empt
           taken = taken ∙ r.taken;
           common = record {
             settings = same.settings ∙ r.common.settings;
-            place = ap (λ (p : Progress). p.place) progress ∙ r.common.place;
+            offset = ap (λ (p : Progress). p.offset) progress ∙ r.common.offset;
             counts = counts ∙ r.common.counts;
             told = record {
-              front = r.items;
+              prefix = r.exchanges;
               others = [];
-              are = sym (append-nil r.items);
+              are = sym (append-nil r.exchanges);
               numbers = ap (λ (p : Progress). p.told) progress ∙ r.common.counts;
-              whole = subst (λ (t : List ℕ). IsPrefix (written_items s map.empty 0 r.items) t) (sym out) (items-front s r.items r.tail);
+              whole = subst (λ (t : List ℕ). IsPrefix (written_exchanges s map.empty 0 r.exchanges) t) (sym out) (exchanges-front s r.exchanges r.tail);
             };
           };
-          stands = subst (λ (t : State). Stands t e' s r.items r.tail) (sym state_)
-              (stands-flushed e.state e e' s r.items r.tail r.stands head media same empty);
+          stands = subst (λ (t : State). Stands t e' s r.exchanges r.tail) (sym state_)
+              (stands-flushed e.state e e' s r.exchanges r.tail r.stands head media same empty);
         };
         flushed = empty;
         few = rw taken few;
@@ -233,8 +233,8 @@ reads-broken e e' s m given more r counts within = record {
   unseen = [];
   all = sym (append-nil m);
   all_seen = λ _. refl;
-  recording = open_cut r.items r.tail;
+  recording = open_cut r.exchanges r.tail;
   cut = r.cut;
   within = subst (λ (t : List ℕ). IsPrefix (given ++ more) t) r.gave within;
-  counted = counted-front e' s r.items given more (rw counts r.common.told);
+  counted = counted-prefix e' s r.exchanges given more (rw counts r.common.told);
 }

@@ -19,14 +19,14 @@ boxed given box box' before start owed more gave grew is =
 pub boxed-err : (b c : OutboxState) (start owed : List ℕ) (most : ℕ)
     → Gives (told_bytes b.bytes) (told_bytes c.bytes) start (λ all. IsPrefix all owed)
     → OnlyFills b c → Rose b.faults c.faults → b.faults ≡ 0 → length b.bytes + most < outbox_room → length owed ≤ most → ⊥
-boxed-err b c start owed most gives behind rose calm room fits =
+boxed-err b c start owed most gives after rose no_faults room fits =
     let size : length c.bytes ≡ length b.bytes + length gives.more =
     ap length gives.gained.bytes ∙ length-append b.bytes gives.more in
     let (rest, is) = gives.holds in
     let whole : length owed ≡ (length start + length gives.more) + length rest =
     ap length is ∙ length-append (start ++ gives.more) rest ∙ ap (λ n. n + length rest) (length-append start gives.more) in
-    elim behind.full [
-      | inl same ↦ absurd (omega (arith, same, calm, rose.1 (omega (arith, same, calm))))
+    elim after.full [
+      | inl same ↦ absurd (omega (arith, same, no_faults, rose.1 (omega (arith, same, no_faults))))
       | inr full ↦ absurd (omega (arith, full))
     ]
 

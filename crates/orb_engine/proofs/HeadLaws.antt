@@ -21,7 +21,7 @@ use Rattle.http_exchange.specs.declared.refusals.BadKind.{BadKind}
 use Rattle.http_exchange.specs.declared.request.RequestHead.{RequestHead}
 use Rattle.http_exchange.proofs.EndLemmas.{head_length-stays, head_length-alone}
 use Rattle.http_exchange.specs.HeadTexts.{head_limit, IsHeadText, IsOpenHead, IsLongHead}
-use Rattle.orb_engine.specs.Heads.{Response, IsResponseHead}
+use Rattle.orb_engine.specs.Heads.{ResponseText, IsResponseHead}
 
 pub data HeadView : Type 0 where
   Opens : HeadView
@@ -61,15 +61,15 @@ ends_behind front rest n open_ ends =
           let here : head_length front ≡ Some n =
           ap head_length (sym (take-append-drop n front)) ∙ head_length-stays (take n front) (drop n front) n alone in
           absurd (none-some n (sym open_ ∙ here))
-      | inr behind ↦ grind (arith, nat_tests, behind)
+      | inr after ↦ grind (arith, nat_tests, after)
     ]
 
 long_by : (l : List ℕ) (o : Option ℕ) → head_limit ≤ length l → ((n : ℕ) → o ≡ Some n → head_limit < n) → view_by l o ≡ Longs
 unfolding view_by
-long_by l None long behind =
+long_by l None long after =
     let more : nat_lt (length l) head_limit ≡ false = grind (arith, nat_tests, long) in ap (λ t. cond t Opens Longs) more
-long_by l (Some n) long behind =
-    let far : head_limit < n = behind n refl in
+long_by l (Some n) long after =
+    let far : head_limit < n = after n refl in
     let more : nat_le n head_limit ≡ false = grind (arith, nat_tests, far) in
     ap (λ t. cond t (Stands (take n l) (drop n l)) Longs) more
 
@@ -110,12 +110,12 @@ ask_or_bad head a k x y = let e : ◌≡◌ {A = Result RequestHead BadKind} (Ok
 
 same_response : (b b' : List ℕ) (s s' : ℕ) (fields fields' : List (List ℕ × List ℕ)) (e e' : Option (List ℕ × List ℕ)) (f f' : BodyFrame)
     → b ≡ b' → s ≡ s' → fields ≡ fields' → e ≡ e' → f ≡ f'
-    → ◌≡◌ {A = Response} (record { bytes = b; status = s; fields = fields; essence = e; frame = f })
+    → ◌≡◌ {A = ResponseText} (record { bytes = b; status = s; fields = fields; essence = e; frame = f })
     (record { bytes = b'; status = s'; fields = fields'; essence = e'; frame = f' })
 same_response b b' s s' fields fields' e e' f f' o p q r t = rw (o, p, q, r, t) refl
 
 -- where both are read from the same bytes
-pub response_once : (to_head : Bool) (r q : Response) → r.bytes ≡ q.bytes → IsResponseHead to_head r → IsResponseHead to_head q → r ≡ q
+pub response_once : (to_head : Bool) (r q : ResponseText) → r.bytes ≡ q.bytes → IsResponseHead to_head r → IsResponseHead to_head q → r ≡ q
 response_once to_head r q same x y =
     let reads : IsResponse r.bytes y.tree = subst (λ b. IsResponse b y.tree) (sym same) y.reads in
     let tree : x.tree ≡ y.tree = (response_unique r.bytes x.tree y.tree _ _ x.reads.0 reads.0).0 in
@@ -138,7 +138,7 @@ bad_response_once head to_head k l (inr x) (inr y) =
     same_Err k l
     (sym x.2 ∙ ap (λ h. frame_of to_head (status_code h) (pairs_of h.fields)) (response_unique head x.0 y.0 _ _ x.1.0 y.1.0).0 ∙ y.2)
 
-pub response_or_bad : (r : Response) (to_head : Bool) (k : BadKind) → IsResponseHead to_head r → ReadsResponseHead r.bytes to_head (Err k) → ⊥
+pub response_or_bad : (r : ResponseText) (to_head : Bool) (k : BadKind) → IsResponseHead to_head r → ReadsResponseHead r.bytes to_head (Err k) → ⊥
 response_or_bad r to_head k x (inl y) = y.0 x.tree x.reads
 response_or_bad r to_head k x (inr y) =
     no_Ok r.frame k

@@ -12,7 +12,7 @@ use Rattle.response_rules.specs.declared.deciding.Decider.{Decider}
 use Rattle.response_rules.specs.Reads.{HasRead as DeciderHasRead, head_of}
 use Rattle.media_state.specs.declared.states.MediaState.{MediaState}
 use Rattle.orb_engine.specs.HeadReads.{ReadsWell}
-use Rattle.orb_engine.proofs.AnswerLaws.{refusal-stands, items-longer}
+use Rattle.orb_engine.proofs.AnswerLaws.{refusal-stands, exchanges-longer}
 use Rattle.http_exchange.specs.Reading.{ReadsRequestHead, ReadsResponseHead}
 use Rattle.http_exchange.specs.declared.refusals.BadKind.{BadKind}
 use Rattle.http_exchange.specs.declared.request.RequestHead.{RequestHead}
@@ -26,72 +26,72 @@ use Rattle.orb_engine.specs.Progress.{advanced}
 use Rattle.orb_engine.specs.declared.outcome.EngineOutcome.{EngineOutcome}
 use Rattle.orb_engine.specs.declared.outcome.EngineOutcome.TheVariants as outcome
 use Rattle.http_exchange.specs.HeadTexts.{IsHeadText, IsOpenHead, IsLongHead}
-use Rattle.orb_engine.specs.Heads.{Request, id_of, state_before}
+use Rattle.orb_engine.specs.Heads.{RequestText, id_of, state_before}
 use Rattle.media_state.specs.Table.{admits, IsRefusedId}
 use Rattle.orb_engine.specs.Recording as cut
-use Rattle.orb_engine.specs.Recording.{Item, Tail, Recording, IsRecording, IsTail, is_open, spell_items, spell_tail}
+use Rattle.orb_engine.specs.Recording.{Exchange, Tail, Recording, IsRecording, IsTail, is_open, spell_exchanges, spell_tail}
 use Rattle.orb_engine.specs.Ends as ends
 use Rattle.orb_engine.specs.Ends.{End, stop_of}
-use Rattle.orb_engine.specs.Outputs.{output_of, written_items, written_tail}
-use Rattle.orb_engine.specs.Counts.{rules_of, rules_of_items, rules_of_tail}
+use Rattle.orb_engine.specs.Outputs.{output_of, written_exchanges, written_tail}
+use Rattle.orb_engine.specs.Counts.{rules_of, rules_of_exchanges, rules_of_tail}
 use Rattle.orb_engine.specs.Writing.{gathered_by}
-use Rattle.orb_engine.specs.Reads.{open_cut, table_of, counts_of, IsTold, Common, Asks, Answers, Stands, Reads, IsStop, Stops, Breaks, Halts, HasRequest, HasResponse, HasHead, IsInHead, head_place_of, HasReadHeads}
-use Rattle.orb_engine.proofs.CutLemmas.{spell_items-append, spell_items-length}
-use Rattle.orb_engine.proofs.FillLemmas.{empty-open, output-asking, stands-as}
+use Rattle.orb_engine.specs.Reads.{open_cut, table_of, counts_of, IsTold, Common, AtRequestHead, AtResponseHead, Stands, Reads, IsStop, Stops, Breaks, Halts, HasRequest, HasResponse, HasHead, IsInHead, head_offset_of, HasReadHeads}
+use Rattle.orb_engine.proofs.CutLemmas.{spell_exchanges-append, spell_exchanges-length}
+use Rattle.orb_engine.proofs.FillLemmas.{empty-open, output-request_head, stands-as}
 
 -- no output comes of these tails
-pub output-quiet : (s : Settings) (items : List Item) (t : Tail) (more : List ℕ) (ended : Bool)
-    → written_tail s (table_of items) (length items) ended t ≡ []
-    → output_of s (record { items = items; tail = t; more = more }) ended ≡ written_items s map.empty 0 items
+pub output-quiet : (s : Settings) (exchanges : List Exchange) (t : Tail) (more : List ℕ) (ended : Bool)
+    → written_tail s (table_of exchanges) (length exchanges) ended t ≡ []
+    → output_of s (record { exchanges = exchanges; tail = t; more = more }) ended ≡ written_exchanges s map.empty 0 exchanges
 unfolding output_of
-output-quiet s items t more ended none = ap (λ x. written_items s map.empty 0 items ++ x) none ∙ append-nil _
+output-quiet s exchanges t more ended none = ap (λ x. written_exchanges s map.empty 0 exchanges ++ x) none ∙ append-nil _
 
-pub rules-quiet : (s : Settings) (items : List Item) (t : Tail) (more : List ℕ) (ended : Bool)
-    → rules_of_tail s (table_of items) ended t ≡ []
-    → rules_of s (record { items = items; tail = t; more = more }) ended ≡ rules_of_items items
+pub rules-quiet : (s : Settings) (exchanges : List Exchange) (t : Tail) (more : List ℕ) (ended : Bool)
+    → rules_of_tail s (table_of exchanges) ended t ≡ []
+    → rules_of s (record { exchanges = exchanges; tail = t; more = more }) ended ≡ rules_of_exchanges exchanges
 unfolding rules_of
-rules-quiet s items t more ended none = ap (λ x. rules_of_items items ++ x) none ∙ append-nil _
+rules-quiet s exchanges t more ended none = ap (λ x. rules_of_exchanges exchanges ++ x) none ∙ append-nil _
 
 -- an end that gives nothing
-pub quiet-stops : (o : EngineOutcome) (e : Engine) (s : Settings) (m given : List ℕ) (ended : Bool) (items : List Item) (t : Tail) (more : List ℕ)
-    → IsRecording s m (record { items = items; tail = t; more = more })
-    → written_tail s (table_of items) (length items) ended t ≡ [] → rules_of_tail s (table_of items) ended t ≡ []
-    → IsStop o (stop_of s (record { items = items; tail = t; more = more }) ended)
-    → given ++ gathered_by e.writer ≡ written_items s map.empty 0 items
-    → e.progress.counts ≡ counts_of (rules_of_items items) → IsTold e.progress.told s items given
+pub quiet-stops : (o : EngineOutcome) (e : Engine) (s : Settings) (m given : List ℕ) (ended : Bool) (exchanges : List Exchange) (t : Tail) (more : List ℕ)
+    → IsRecording s m (record { exchanges = exchanges; tail = t; more = more })
+    → written_tail s (table_of exchanges) (length exchanges) ended t ≡ [] → rules_of_tail s (table_of exchanges) ended t ≡ []
+    → IsStop o (stop_of s (record { exchanges = exchanges; tail = t; more = more }) ended)
+    → given ++ gathered_by e.writer ≡ written_exchanges s map.empty 0 exchanges
+    → e.progress.counts ≡ counts_of (rules_of_exchanges exchanges) → IsTold e.progress.told s exchanges given
     → Stops o e s m ended given
-quiet-stops o e s m given ended items t more cut_ quiet rules stop gave counts told = record {
-  recording = record { items = items; tail = t; more = more };
+quiet-stops o e s m given ended exchanges t more cut_ quiet rules stop gave counts told = record {
+  recording = record { exchanges = exchanges; tail = t; more = more };
   cut = cut_;
   stop = stop;
-  gave = gave ∙ sym (output-quiet s items t more ended quiet);
-  counts = counts ∙ ap counts_of (sym (rules-quiet s items t more ended rules));
+  gave = gave ∙ sym (output-quiet s exchanges t more ended quiet);
+  counts = counts ∙ ap counts_of (sym (rules-quiet s exchanges t more ended rules));
   told = told;
 }
 
-asks-at : (t : State) (e : Engine) (s : Settings) (items : List Item) (tail : Tail) → t ≡ state.RequestHead
-    → Stands t e s items tail → Asks e s items tail
-asks-at t e s items tail is h = subst (λ (u : State). Stands u e s items tail) is h
+request_head-at : (t : State) (e : Engine) (s : Settings) (exchanges : List Exchange) (tail : Tail) → t ≡ state.RequestHead
+    → Stands t e s exchanges tail → AtRequestHead e s exchanges tail
+request_head-at t e s exchanges tail is h = subst (λ (u : State). Stands u e s exchanges tail) is h
 
-answers-at : (t : State) (asked : Asked) (e : Engine) (s : Settings) (items : List Item) (tail : Tail) → t ≡ state.ResponseHead asked
-    → Stands t e s items tail → Answers asked e s items tail
-answers-at t asked e s items tail is h = subst (λ (u : State). Stands u e s items tail) is h
+response_head-at : (t : State) (asked : Asked) (e : Engine) (s : Settings) (exchanges : List Exchange) (tail : Tail) → t ≡ state.ResponseHead asked
+    → Stands t e s exchanges tail → AtResponseHead asked e s exchanges tail
+response_head-at t asked e s exchanges tail is h = subst (λ (u : State). Stands u e s exchanges tail) is h
 
 -- an engine in a request head
 pub open-request : (e : Engine) (s : Settings) (m given : List ℕ) → Reads e s m given → e.state ≡ state.RequestHead
     → HasRequest IsOpenHead e s m given
 open-request e s m given r is =
-    let a = asks-at e.state e s r.items r.tail is r.stands in
+    let a = request_head-at e.state e s r.exchanges r.tail is r.stands in
     record {
-      items = r.items;
+      exchanges = r.exchanges;
       head = a.head;
-      spells = r.cut.spells ∙ ap (λ t. spell_items r.items (spell_tail t [])) a.is ∙ ap (spell_items r.items) (append-nil a.head);
-      whole = r.cut.items;
-      text = subst (λ (t : Tail). IsTail s (table_of r.items) t) a.is r.cut.tail;
+      spells = r.cut.spells ∙ ap (λ t. spell_exchanges r.exchanges (spell_tail t [])) a.is ∙ ap (spell_exchanges r.exchanges) (append-nil a.head);
+      whole = r.cut.exchanges;
+      text = subst (λ (t : Tail). IsTail s (table_of r.exchanges) t) a.is r.cut.tail;
       buffer = a.text;
       media = a.media;
       writer = a.writer;
-      gave = r.gave ∙ ap (λ t. output_of s (open_cut r.items t) false) a.is ∙ output-asking s r.items a.head [] false;
+      gave = r.gave ∙ ap (λ t. output_of s (open_cut r.exchanges t) false) a.is ∙ output-request_head s r.exchanges a.head [] false;
       taken = r.taken;
       common = r.common;
     }
@@ -99,19 +99,19 @@ open-request e s m given r is =
 pub reads-request : (e : Engine) (s : Settings) (m given : List ℕ) → HasRequest IsOpenHead e s m given → e.state ≡ state.RequestHead
     → Reads e s m given
 reads-request e s m given h is = record {
-  items = h.items;
-  tail = cut.Asking h.head;
+  exchanges = h.exchanges;
+  tail = cut.InRequestHead h.head;
   cut = record {
-    spells = h.spells ∙ ap (spell_items h.items) (sym (append-nil h.head));
-    items = h.whole;
+    spells = h.spells ∙ ap (spell_exchanges h.exchanges) (sym (append-nil h.head));
+    exchanges = h.whole;
     tail = h.text;
     last = λ _. refl;
   };
   open_ = refl;
-  gave = h.gave ∙ sym (output-asking s h.items h.head [] false);
+  gave = h.gave ∙ sym (output-request_head s h.exchanges h.head [] false);
   taken = h.taken;
   common = h.common;
-  stands = stands-as e.state state.RequestHead e s h.items _ is (record {
+  stands = stands-as e.state state.RequestHead e s h.exchanges _ is (record {
     head = h.head;
     is = refl;
     text = h.buffer;
@@ -125,14 +125,14 @@ pub open-response : (asked : Asked) (e : Engine) (s : Settings) (m given : List 
     → HasResponse IsOpenHead asked e s m given
 unfolding output_of
 open-response asked e s m given r is =
-    let a = answers-at e.state asked e s r.items r.tail is r.stands in
-    let t = subst (λ (t : Tail). IsTail s (table_of r.items) t) a.is r.cut.tail in
+    let a = response_head-at e.state asked e s r.exchanges r.tail is r.stands in
+    let t = subst (λ (t : Tail). IsTail s (table_of r.exchanges) t) a.is r.cut.tail in
     record {
-      items = r.items;
+      exchanges = r.exchanges;
       request = a.request;
       head = a.head;
-      spells = r.cut.spells ∙ ap (λ t. spell_items r.items (spell_tail t [])) a.is ∙ ap (λ x. spell_items r.items (a.request.bytes ++ x)) (append-nil a.head);
-      whole = r.cut.items;
+      spells = r.cut.spells ∙ ap (λ t. spell_exchanges r.exchanges (spell_tail t [])) a.is ∙ ap (λ x. spell_exchanges r.exchanges (a.request.bytes ++ x)) (append-nil a.head);
+      whole = r.cut.exchanges;
       good = t.0;
       text = t.1;
       buffer = a.text;
@@ -140,8 +140,8 @@ open-response asked e s m given r is =
       writer = a.writer;
       asks = a.asks;
       state = a.state;
-      place = a.place;
-      gave = r.gave ∙ ap (λ t. output_of s (open_cut r.items t) false) a.is ∙ append-nil _;
+      offset = a.offset;
+      gave = r.gave ∙ ap (λ t. output_of s (open_cut r.exchanges t) false) a.is ∙ append-nil _;
       taken = r.taken;
       common = r.common;
     }
@@ -150,11 +150,11 @@ pub reads-response : (asked : Asked) (e : Engine) (s : Settings) (m given : List
     → e.state ≡ state.ResponseHead asked → Reads e s m given
 unfolding output_of
 reads-response asked e s m given h is = record {
-  items = h.items;
-  tail = cut.Answering h.request h.head;
+  exchanges = h.exchanges;
+  tail = cut.InResponseHead h.request h.head;
   cut = record {
-    spells = h.spells ∙ ap (λ x. spell_items h.items (h.request.bytes ++ x)) (sym (append-nil h.head));
-    items = h.whole;
+    spells = h.spells ∙ ap (λ x. spell_exchanges h.exchanges (h.request.bytes ++ x)) (sym (append-nil h.head));
+    exchanges = h.whole;
     tail = (h.good, h.text);
     last = λ _. refl;
   };
@@ -162,7 +162,7 @@ reads-response asked e s m given h is = record {
   gave = h.gave ∙ sym (append-nil _);
   taken = h.taken;
   common = h.common;
-  stands = stands-as e.state (state.ResponseHead asked) e s h.items _ is (record {
+  stands = stands-as e.state (state.ResponseHead asked) e s h.exchanges _ is (record {
     request = h.request;
     head = h.head;
     is = refl;
@@ -171,23 +171,23 @@ reads-response asked e s m given h is = record {
     writer = h.writer;
     asks = h.asks;
     state = h.state;
-    place = h.place;
+    offset = h.offset;
   });
 }
 
 -- all but what is read next, the head and the count of bytes is as it was
 pub record IsSameHead (e e' : Engine) : Type 0 where
   pub media : e'.media ≡ e.media
-  pub place : e'.progress.place ≡ e.progress.place
+  pub offset : e'.progress.offset ≡ e.progress.offset
   pub counts : e'.progress.counts ≡ e.progress.counts
   pub told : e'.progress.told ≡ e.progress.told
   pub writer : e'.writer ≡ e.writer
 
-pub common-same : (e e' : Engine) (s : Settings) (items : List Item) (given : List ℕ) → IsSameHead e e' → Common e s items given
-    → Common e' s items given
-common-same e e' s items given same c = record {
+pub common-same : (e e' : Engine) (s : Settings) (exchanges : List Exchange) (given : List ℕ) → IsSameHead e e' → Common e s exchanges given
+    → Common e' s exchanges given
+common-same e e' s exchanges given same c = record {
   settings = ap (λ w. w.settings) same.writer ∙ c.settings;
-  place = same.place ∙ c.place;
+  offset = same.offset ∙ c.offset;
   counts = same.counts ∙ c.counts;
   told = rw same.told c.told;
 }
@@ -196,7 +196,7 @@ common-same e e' s items given same c = record {
 pub took : (e e' : Engine) (n : ℕ) → e'.media ≡ e.media → e'.writer ≡ e.writer → e'.progress ≡ advanced e.progress n → IsSameHead e e'
 took e e' n media writer is = record {
   media = media;
-  place = ap (λ (p : Progress). p.place) is;
+  offset = ap (λ (p : Progress). p.offset) is;
   counts = ap (λ (p : Progress). p.counts) is;
   told = ap (λ (p : Progress). p.told) is;
   writer = writer;
@@ -210,9 +210,9 @@ pub request-longer : (IsText : List ℕ → Type 0) (e e' : Engine) (s : Setting
     → IsSameHead e e' → e'.head ≡ e.head ++ prefix → IsText e'.head → e'.progress.taken ≡ e.progress.taken + length prefix
     → HasRequest IsText e' s (m ++ prefix) given
 request-longer IsText e e' s m given prefix h same head text taken = record {
-  items = h.items;
+  exchanges = h.exchanges;
   head = h.head ++ prefix;
-  spells = ap (λ x. x ++ prefix) h.spells ∙ spell_items-append h.items h.head prefix;
+  spells = ap (λ x. x ++ prefix) h.spells ∙ spell_exchanges-append h.exchanges h.head prefix;
   whole = h.whole;
   text = subst IsText (head ∙ ap (λ x. x ++ prefix) h.buffer) text;
   buffer = head ∙ ap (λ x. x ++ prefix) h.buffer;
@@ -220,66 +220,66 @@ request-longer IsText e e' s m given prefix h same head text taken = record {
   writer = rw same.writer h.writer;
   gave = ap (λ x. given ++ x) (box-same e e' same) ∙ h.gave;
   taken = omega (arith, taken, h.taken, length-append m prefix);
-  common = common-same e e' s h.items given same h.common;
+  common = common-same e e' s h.exchanges given same h.common;
 }
 
 pub request-long : (e e' : Engine) (s : Settings) (m given prefix rest : List ℕ) → HasRequest IsOpenHead e s m given
     → IsSameHead e e' → e'.head ≡ e.head ++ prefix → IsLongHead e'.head
-    → Stops (outcome.HeadLimit e.progress.place) e' s (m ++ (prefix ++ rest)) false given
+    → Stops (outcome.HeadLimit e.progress.offset) e' s (m ++ (prefix ++ rest)) false given
 unfolding stop_of
 request-long e e' s m given prefix rest h same head long =
-    quiet-stops (outcome.HeadLimit e.progress.place) e' s (m ++ (prefix ++ rest)) given false h.items (cut.LongRequest (h.head ++ prefix)) rest
+    quiet-stops (outcome.HeadLimit e.progress.offset) e' s (m ++ (prefix ++ rest)) given false h.exchanges (cut.LongRequest (h.head ++ prefix)) rest
     (record {
-      spells = ap (λ x. x ++ (prefix ++ rest)) h.spells ∙ spell_items-append h.items h.head (prefix ++ rest)
-          ∙ ap (spell_items h.items) (sym (append_assoc h.head prefix rest));
-      items = h.whole;
+      spells = ap (λ x. x ++ (prefix ++ rest)) h.spells ∙ spell_exchanges-append h.exchanges h.head (prefix ++ rest)
+          ∙ ap (spell_exchanges h.exchanges) (sym (append_assoc h.head prefix rest));
+      exchanges = h.whole;
       tail = subst (λ (x : List ℕ). IsLongHead x) (head ∙ ap (λ x. x ++ prefix) h.buffer) long;
       last = λ never. absurd (cc never);
-    }) refl refl (ap (λ p. ends.HeadLimit p) (sym h.common.place))
+    }) refl refl (ap (λ p. ends.HeadLimit p) (sym h.common.offset))
     (ap (λ x. given ++ x) (box-same e e' same) ∙ h.gave) (same.counts ∙ h.common.counts) (rw same.told h.common.told)
 
 -- the request head is refused
 pub request-bad : (e e' : Engine) (s : Settings) (m given : List ℕ) (kind : BadKind) → HasRequest IsHeadText e s m given
-    → IsSameHead e e' → ReadsRequestHead e.head (Err kind) → Stops (outcome.Bad kind e.progress.place) e' s m false given
+    → IsSameHead e e' → ReadsRequestHead e.head (Err kind) → Stops (outcome.Bad kind e.progress.offset) e' s m false given
 unfolding stop_of
 request-bad e e' s m given kind h same reads =
-    quiet-stops (outcome.Bad kind e.progress.place) e' s m given false h.items (cut.BadRequest h.head kind) []
+    quiet-stops (outcome.Bad kind e.progress.offset) e' s m given false h.exchanges (cut.BadRequest h.head kind) []
     (record {
-      spells = h.spells ∙ ap (spell_items h.items) (sym (append-nil h.head));
-      items = h.whole;
+      spells = h.spells ∙ ap (spell_exchanges h.exchanges) (sym (append-nil h.head));
+      exchanges = h.whole;
       tail = (h.text, subst (λ (x : List ℕ). ReadsRequestHead x (Err kind)) h.buffer reads);
       last = λ never. absurd (cc never);
-    }) refl refl (ap (λ p. ends.Bad kind p) (sym h.common.place))
+    }) refl refl (ap (λ p. ends.Bad kind p) (sym h.common.offset))
     (ap (λ x. given ++ x) (box-same e e' same) ∙ h.gave) (same.counts ∙ h.common.counts) (rw same.told h.common.told)
 
 -- the table of media states is full
 pub request-full : (e e' : Engine) (s : Settings) (m given : List ℕ) (asks : RequestHead) → HasRequest IsHeadText e s m given
     → e'.writer ≡ e.writer → e'.progress.counts ≡ e.progress.counts → e'.progress.told ≡ e.progress.told
     → ReadsRequestHead e.head (Ok asks) → IsRefusedId e.media (id_of asks)
-    → Stops (outcome.MediaFull e.progress.place) e' s m false given
+    → Stops (outcome.MediaFull e.progress.offset) e' s m false given
 unfolding stop_of
 request-full e e' s m given asks h writer counts told reads refused =
-    let r : Request = record { bytes = h.head; asks = asks } in
-    quiet-stops (outcome.MediaFull e.progress.place) e' s m given false h.items (cut.FullTable r) []
+    let r : RequestText = record { bytes = h.head; asks = asks } in
+    quiet-stops (outcome.MediaFull e.progress.offset) e' s m given false h.exchanges (cut.FullTable r) []
     (record {
-      spells = h.spells ∙ ap (spell_items h.items) (sym (append-nil h.head));
-      items = h.whole;
+      spells = h.spells ∙ ap (spell_exchanges h.exchanges) (sym (append-nil h.head));
+      exchanges = h.whole;
       tail = (record { text = h.text; reads = subst (λ (x : List ℕ). ReadsRequestHead x (Ok asks)) h.buffer reads }, rw (← h.media) refused);
       last = λ never. absurd (cc never);
-    }) refl refl (ap (λ p. ends.MediaFull p) (sym h.common.place))
+    }) refl refl (ap (λ p. ends.MediaFull p) (sym h.common.offset))
     (ap (λ w. given ++ gathered_by w) writer ∙ h.gave) (counts ∙ h.common.counts) (rw told h.common.told)
 
 -- the request is good, and its response comes
 pub request-good : (e e' : Engine) (asked : Asked) (s : Settings) (m given : List ℕ) → HasRequest IsHeadText e s m given
-    → e'.writer ≡ e.writer → e'.progress.counts ≡ e.progress.counts → e'.progress.told ≡ e.progress.told → e'.progress.place ≡ e.progress.place → e'.progress.taken ≡ e.progress.taken
+    → e'.writer ≡ e.writer → e'.progress.counts ≡ e.progress.counts → e'.progress.told ≡ e.progress.told → e'.progress.offset ≡ e.progress.offset → e'.progress.taken ≡ e.progress.taken
     → e'.head ≡ [] → ReadsRequestHead e.head (Ok asked.asks) → (IsRefusedId e.media (id_of asked.asks) → ⊥)
-    → asked.state ≡ state_before e.media asked.asks → e'.media ≡ admits e.media (id_of asked.asks) → asked.place ≡ e.progress.taken
+    → asked.state ≡ state_before e.media asked.asks → e'.media ≡ admits e.media (id_of asked.asks) → asked.offset ≡ e.progress.taken
     → HasResponse IsOpenHead asked e' s m given
-request-good e e' asked s m given h writer counts told place taken empty reads room state media asked_place = record {
-  items = h.items;
+request-good e e' asked s m given h writer counts told offset taken empty reads room state media asked_offset = record {
+  exchanges = h.exchanges;
   request = record { bytes = h.head; asks = asked.asks };
   head = [];
-  spells = h.spells ∙ ap (spell_items h.items) (sym (append-nil h.head));
+  spells = h.spells ∙ ap (spell_exchanges h.exchanges) (sym (append-nil h.head));
   whole = h.whole;
   good = record {
     head = record { text = h.text; reads = subst (λ (x : List ℕ). ReadsRequestHead x (Ok asked.asks)) h.buffer reads };
@@ -291,12 +291,12 @@ request-good e e' asked s m given h writer counts told place taken empty reads r
   writer = rw writer h.writer;
   asks = refl;
   state = state ∙ ap (λ t. state_before t asked.asks) h.media;
-  place = asked_place ∙ h.taken ∙ ap length h.spells ∙ spell_items-length h.items h.head;
+  offset = asked_offset ∙ h.taken ∙ ap length h.spells ∙ spell_exchanges-length h.exchanges h.head;
   gave = ap (λ w. given ++ gathered_by w) writer ∙ h.gave;
   taken = taken ∙ h.taken;
   common = record {
     settings = ap (λ w. w.settings) writer ∙ h.common.settings;
-    place = place ∙ h.common.place;
+    offset = offset ∙ h.common.offset;
     counts = counts ∙ h.common.counts;
     told = rw told h.common.told;
   };
@@ -319,7 +319,7 @@ pub stops-longer : (o : EngineOutcome) (e : Engine) (s : Settings) (m more given
 stops-longer o e s m more given stops =
     let closed = stop-closed o (stop_of s stops.recording false) stops.stop in
     let (r, cut_, same) = refusal-stands s m more stops.recording stops.cut closed in
-    let (others, are) = items-longer s m more stops.recording r stops.cut cut_ in
+    let (others, are) = exchanges-longer s m more stops.recording r stops.cut cut_ in
     record {
       recording = r;
       cut = cut_;
@@ -327,9 +327,9 @@ stops-longer o e s m more given stops =
       gave = stops.gave ∙ sym (same.output false);
       counts = stops.counts ∙ ap counts_of (sym (same.rules false));
       told = record {
-        front = stops.told.front;
+        prefix = stops.told.prefix;
         others = stops.told.others ++ others;
-        are = are ∙ ap (λ t. t ++ others) stops.told.are ∙ append_assoc stops.told.front stops.told.others others;
+        are = are ∙ ap (λ t. t ++ others) stops.told.are ∙ append_assoc stops.told.prefix stops.told.others others;
         numbers = stops.told.numbers;
         whole = stops.told.whole;
       };
@@ -372,11 +372,11 @@ pub response-longer : (IsText : List ℕ → Type 0) (asked : Asked) (e e' : Eng
     → HasResponse IsOpenHead asked e s m given → IsSameHead e e' → e'.head ≡ e.head ++ prefix → IsText e'.head
     → e'.progress.taken ≡ e.progress.taken + length prefix → HasResponse IsText asked e' s (m ++ prefix) given
 response-longer IsText asked e e' s m given prefix h same head text taken = record {
-  items = h.items;
+  exchanges = h.exchanges;
   request = h.request;
   head = h.head ++ prefix;
-  spells = ap (λ x. x ++ prefix) h.spells ∙ spell_items-append h.items (h.request.bytes ++ h.head) prefix
-      ∙ ap (spell_items h.items) (append_assoc h.request.bytes h.head prefix);
+  spells = ap (λ x. x ++ prefix) h.spells ∙ spell_exchanges-append h.exchanges (h.request.bytes ++ h.head) prefix
+      ∙ ap (spell_exchanges h.exchanges) (append_assoc h.request.bytes h.head prefix);
   whole = h.whole;
   good = h.good;
   text = subst IsText (head ∙ ap (λ x. x ++ prefix) h.buffer) text;
@@ -385,26 +385,26 @@ response-longer IsText asked e e' s m given prefix h same head text taken = reco
   writer = rw same.writer h.writer;
   asks = h.asks;
   state = h.state;
-  place = h.place;
+  offset = h.offset;
   gave = ap (λ x. given ++ x) (box-same e e' same) ∙ h.gave;
   taken = omega (arith, taken, h.taken, length-append m prefix);
-  common = common-same e e' s h.items given same h.common;
+  common = common-same e e' s h.exchanges given same h.common;
 }
 
 pub response-long : (asked : Asked) (e e' : Engine) (s : Settings) (m given prefix rest : List ℕ) → HasResponse IsOpenHead asked e s m given
     → IsSameHead e e' → e'.head ≡ e.head ++ prefix → IsLongHead e'.head
-    → Stops (outcome.HeadLimit asked.place) e' s (m ++ (prefix ++ rest)) false given
+    → Stops (outcome.HeadLimit asked.offset) e' s (m ++ (prefix ++ rest)) false given
 unfolding stop_of
 response-long asked e e' s m given prefix rest h same head long =
-    quiet-stops (outcome.HeadLimit asked.place) e' s (m ++ (prefix ++ rest)) given false h.items (cut.LongResponse h.request (h.head ++ prefix)) rest
+    quiet-stops (outcome.HeadLimit asked.offset) e' s (m ++ (prefix ++ rest)) given false h.exchanges (cut.LongResponse h.request (h.head ++ prefix)) rest
     (record {
-      spells = ap (λ x. x ++ (prefix ++ rest)) h.spells ∙ spell_items-append h.items (h.request.bytes ++ h.head) (prefix ++ rest)
-          ∙ ap (spell_items h.items) (append_assoc h.request.bytes h.head (prefix ++ rest)
+      spells = ap (λ x. x ++ (prefix ++ rest)) h.spells ∙ spell_exchanges-append h.exchanges (h.request.bytes ++ h.head) (prefix ++ rest)
+          ∙ ap (spell_exchanges h.exchanges) (append_assoc h.request.bytes h.head (prefix ++ rest)
           ∙ ap (λ t. h.request.bytes ++ t) (sym (append_assoc h.head prefix rest)));
-      items = h.whole;
+      exchanges = h.whole;
       tail = (h.good, subst (λ (x : List ℕ). IsLongHead x) (head ∙ ap (λ x. x ++ prefix) h.buffer) long);
       last = λ never. absurd (cc never);
-    }) refl refl (ap (λ p. ends.HeadLimit p) (sym h.place))
+    }) refl refl (ap (λ p. ends.HeadLimit p) (sym h.offset))
     (ap (λ x. given ++ x) (box-same e e' same) ∙ h.gave) (same.counts ∙ h.common.counts) (rw same.told h.common.told)
 
 -- the head that comes, by what is read next
@@ -434,10 +434,10 @@ head-longer (state.Body incoming) IsText e e' s m given prefix h same head text 
 
 pub head-long : (t : State) (e e' : Engine) (s : Settings) (m given prefix rest : List ℕ) → HasHead IsOpenHead t e s m given
     → IsSameHead e e' → e'.head ≡ e.head ++ prefix → IsLongHead e'.head
-    → Stops (outcome.HeadLimit (head_place_of t e')) e' s (m ++ (prefix ++ rest)) false given
+    → Stops (outcome.HeadLimit (head_offset_of t e')) e' s (m ++ (prefix ++ rest)) false given
 head-long state.Idle e e' s m given prefix rest h same head long = absurd h
 head-long state.RequestHead e e' s m given prefix rest h same head long =
-    subst (λ (p : ℕ). Stops (outcome.HeadLimit p) e' s (m ++ (prefix ++ rest)) false given) (sym same.place)
+    subst (λ (p : ℕ). Stops (outcome.HeadLimit p) e' s (m ++ (prefix ++ rest)) false given) (sym same.offset)
     (request-long e e' s m given prefix rest h same head long)
 head-long (state.ResponseHead asked) e e' s m given prefix rest h same head long =
     response-long asked e e' s m given prefix rest h same head long
@@ -445,16 +445,16 @@ head-long (state.Body incoming) e e' s m given prefix rest h same head long = ab
 
 -- the response head is refused
 pub response-bad : (asked : Asked) (e e' : Engine) (s : Settings) (m given : List ℕ) (kind : BadKind) → HasResponse IsHeadText asked e s m given
-    → IsSameHead e e' → ReadsResponseHead e.head asked.asks.is_head (Err kind) → Stops (outcome.Bad kind asked.place) e' s m false given
+    → IsSameHead e e' → ReadsResponseHead e.head asked.asks.is_head (Err kind) → Stops (outcome.Bad kind asked.offset) e' s m false given
 unfolding stop_of
 response-bad asked e e' s m given kind h same reads =
-    quiet-stops (outcome.Bad kind asked.place) e' s m given false h.items (cut.BadResponse h.request h.head kind) []
+    quiet-stops (outcome.Bad kind asked.offset) e' s m given false h.exchanges (cut.BadResponse h.request h.head kind) []
     (record {
-      spells = h.spells ∙ ap (λ x. spell_items h.items (h.request.bytes ++ x)) (sym (append-nil h.head));
-      items = h.whole;
+      spells = h.spells ∙ ap (λ x. spell_exchanges h.exchanges (h.request.bytes ++ x)) (sym (append-nil h.head));
+      exchanges = h.whole;
       tail = (h.good, h.text, rw (← h.buffer, ← h.asks) reads);
       last = λ never. absurd (cc never);
-    }) refl refl (ap (λ p. ends.Bad kind p) (sym h.place))
+    }) refl refl (ap (λ p. ends.Bad kind p) (sym h.offset))
     (ap (λ x. given ++ x) (box-same e e' same) ∙ h.gave) (same.counts ∙ h.common.counts) (rw same.told h.common.told)
 
 -- the decider is made for the response as the recording has it
@@ -476,7 +476,7 @@ response-good asked read e e' s m given h same head taken well =
     let same_settings = h.common.settings in
     record {
       whole = record {
-        items = h.items;
+        exchanges = h.exchanges;
         request = h.request;
         head = h.head;
         spells = h.spells;
@@ -488,10 +488,10 @@ response-good asked read e e' s m given h same head taken well =
         writer = rw same.writer h.writer;
         asks = h.asks;
         state = h.state;
-        place = h.place;
+        offset = h.offset;
         gave = ap (λ x. given ++ x) (box-same e e' same) ∙ h.gave;
         taken = taken ∙ h.taken;
-        common = common-same e e' s h.items given same h.common;
+        common = common-same e e' s h.exchanges given same h.common;
       };
       response = record {
         bytes = h.head;

@@ -7,7 +7,7 @@ pub mod BodyLaws
 pub mod OutputLaws
 pub mod StartLaws
 pub mod TailLaws
-pub mod ItemLaws
+pub mod ExchangeLaws
 pub mod RecordingLaws
 pub mod AnswerLaws
 pub mod CompleteLemmas

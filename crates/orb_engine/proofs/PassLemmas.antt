@@ -7,8 +7,8 @@ use Rattle.orb_engine.specs.declared.engine.Engine.{Engine}
 use Rattle.orb_engine.specs.declared.engine.states.Incoming.{Incoming}
 use Rattle.orb_engine.specs.declared.engine.states.State.{State}
 use Rattle.orb_engine.specs.declared.engine.states.State.TheVariants as state
-use Rattle.orb_engine.specs.Recording.{Item}
-use Rattle.orb_engine.specs.Outputs.{written_items, written_front}
+use Rattle.orb_engine.specs.Recording.{Exchange}
+use Rattle.orb_engine.specs.Outputs.{written_exchanges, written_so_far}
 use Rattle.orb_engine.specs.Writing.{WriterReads, gathered_by}
 use Rattle.orb_engine.specs.Reads.{coming_response, Common, Passes, Fills, FillsAt, Breaks}
 use Rattle.orb_engine.proofs.ClosingLemmas.{told-more}
@@ -21,52 +21,52 @@ fills-at t incoming e s m given is f = subst (λ (u : State). FillsAt u e s m gi
 -- all but the writer is as it was
 pub record IsKept (e e' : Engine) : Type 0 where
   pub media : e'.media ≡ e.media
-  pub place : e'.progress.place ≡ e.progress.place
+  pub offset : e'.progress.offset ≡ e.progress.offset
   pub taken : e'.progress.taken ≡ e.progress.taken
   pub counts : e'.progress.counts ≡ e.progress.counts
   pub told : e'.progress.told ≡ e.progress.told
   pub settings : e'.writer.settings ≡ e.writer.settings
 
-pub common-kept : (e e' : Engine) (s : Settings) (items : List Item) (given pushed : List ℕ) → IsKept e e' → Common e s items given
-    → Common e' s items (given ++ pushed)
-common-kept e e' s items given pushed kept c = record {
+pub common-kept : (e e' : Engine) (s : Settings) (exchanges : List Exchange) (given pushed : List ℕ) → IsKept e e' → Common e s exchanges given
+    → Common e' s exchanges (given ++ pushed)
+common-kept e e' s exchanges given pushed kept c = record {
   settings = kept.settings ∙ c.settings;
-  place = kept.place ∙ c.place;
+  offset = kept.offset ∙ c.offset;
   counts = kept.counts ∙ c.counts;
-  told = rw kept.told (told-more e.progress.told s items given pushed c.told);
+  told = rw kept.told (told-more e.progress.told s exchanges given pushed c.told);
 }
 
 pub passed-fills : (incoming : Incoming) (e e' : Engine) (s : Settings) (m piece given more : List ℕ)
     (p : Passes incoming e s m piece given) → IsKept e e'
     → (given ++ more) ++ gathered_by e'.writer
-    ≡ written_items s map.empty 0 p.coming.items ++ written_front s.job (coming_response s p.coming) (p.coming.body ++ piece)
+    ≡ written_exchanges s map.empty 0 p.coming.exchanges ++ written_so_far s.job (coming_response s p.coming) (p.coming.body ++ piece)
     → WriterReads e'.writer s (coming_response s p.coming) (p.coming.body ++ piece)
     → Fills incoming e' s m (given ++ more)
 passed-fills incoming e e' s m piece given more p kept gave reads = record {
-  coming = record { items = p.coming.items; heads = p.coming.heads; sent = p.coming.sent; body = p.coming.body ++ piece };
+  coming = record { exchanges = p.coming.exchanges; heads = p.coming.heads; sent = p.coming.sent; body = p.coming.body ++ piece };
   spells = p.spells;
   whole = p.whole;
   good = p.good;
   front = p.front;
   gave = gave;
   taken = kept.taken ∙ p.taken;
-  common = common-kept e e' s p.coming.items given more kept p.common;
+  common = common-kept e e' s p.coming.exchanges given more kept p.common;
   receives = record {
     unframer = p.unframer;
     writer = reads;
     media = kept.media ∙ p.media;
     id = p.id;
     to_end = p.to_end;
-    place = p.place;
+    offset = p.offset;
   };
 }
 
 pub passed-breaks : (incoming : Incoming) (e e' : Engine) (s : Settings) (m piece given more : List ℕ)
     (p : Passes incoming e s m piece given) → IsKept e e'
     → IsPrefix (given ++ more)
-    (written_items s map.empty 0 p.coming.items ++ written_front s.job (coming_response s p.coming) (p.coming.body ++ piece))
+    (written_exchanges s map.empty 0 p.coming.exchanges ++ written_so_far s.job (coming_response s p.coming) (p.coming.body ++ piece))
     → Breaks e' s m false (given ++ more)
 passed-breaks incoming e e' s m piece given more p kept within =
     let c = p.coming in
-    breaks-body e' s m given more c.items _ (rw kept.told p.common.told) within
-    (seen-body s m c.items c.heads c.sent (c.body ++ piece) incoming.unframer p.spells p.whole p.good p.front p.unframer)
+    breaks-body e' s m given more c.exchanges _ (rw kept.told p.common.told) within
+    (seen-body s m c.exchanges c.heads c.sent (c.body ++ piece) incoming.unframer p.spells p.whole p.good p.front p.unframer)

@@ -16,7 +16,7 @@ use Rattle.orb_engine.specs.declared.outcome.EngineOutcome.TheVariants as outcom
 use Rattle.orb_engine.specs.Recording as cut
 use Rattle.orb_engine.specs.Recording.{Tail, Recording}
 use Rattle.orb_engine.specs.Ends.{Open}
-use Rattle.orb_engine.specs.Counts.{rules_of, rules_of_items, rules_of_tail, count_allowed, count_blocked}
+use Rattle.orb_engine.specs.Counts.{rules_of, rules_of_exchanges, rules_of_tail, count_allowed, count_blocked}
 use Rattle.orb_io.specs.Outboxes.{OutboxState}
 use Rattle.orb_engine.specs.Reads.{HaltCause, open_cut}
 use Rattle.orb_engine.specs.Runs.{run_limit, HasRead, Ends, EndsAs, FeedAnswers, FeedCauses, RunAnswers, RunCauses, Ran}
@@ -26,19 +26,19 @@ use Rattle.orb_engine.proofs.AnswerLaws.{opens-stop}
 -- ---- what was read is open
 
 tail-no_rules : (s : Settings) (table : States) (t : Tail) → rules_of_tail s table false t ≡ []
-tail-no_rules s table (cut.Sending h sent body) = refl
+tail-no_rules s table (cut.InBody h sent body) = refl
 tail-no_rules s table _ = refl
 
-rules-items : (s : Settings) (r : Recording) → rules_of s r false ≡ rules_of_items r.items
+rules-exchanges : (s : Settings) (r : Recording) → rules_of s r false ≡ rules_of_exchanges r.exchanges
 unfolding rules_of
-rules-items s r =
-    ap (λ l. rules_of_items r.items ++ l) (tail-no_rules s (cut.table_behind map.empty r.items) r.tail)
-    ∙ append-nil (rules_of_items r.items)
+rules-exchanges s r =
+    ap (λ l. rules_of_exchanges r.exchanges ++ l) (tail-no_rules s (cut.table_after_all map.empty r.exchanges) r.tail)
+    ∙ append-nil (rules_of_exchanges r.exchanges)
 
 pub read-ends : (e : Engine) (s : Settings) (m given : List ℕ) → HasRead e s m given → Ends e s m false (λ stop. stop ≡ Open) given
 read-ends e s m given r =
-    let cutting = open_cut r.reads.items r.reads.tail in
-    let counts = r.reads.common.counts ∙ ap (λ rules. record { allowed = count_allowed rules; blocked = count_blocked rules }) (sym (rules-items s cutting)) in
+    let cutting = open_cut r.reads.exchanges r.reads.tail in
+    let counts = r.reads.common.counts ∙ ap (λ rules. record { allowed = count_allowed rules; blocked = count_blocked rules }) (sym (rules-exchanges s cutting)) in
     record {
       recording = cutting;
       cut = r.reads.cut;

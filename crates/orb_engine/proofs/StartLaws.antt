@@ -7,7 +7,7 @@ use Rattle.http_exchange.specs.declared.refusals.BadKind.{BadKind}
 use Rattle.http_exchange.specs.declared.request.RequestHead.{RequestHead}
 use Rattle.orb_engine.specs.declared.settings.Settings.{Settings}
 use Rattle.http_exchange.specs.HeadTexts.{IsOpenHead}
-use Rattle.orb_engine.specs.Heads.{Request, Response, Heads, IsRequestIn, IsResponseHead, AreHeads, id_of}
+use Rattle.orb_engine.specs.Heads.{RequestText, ResponseText, Heads, IsRequestIn, IsResponseHead, AreHeads, id_of}
 use Rattle.media_state.specs.Table.{IsRefusedId}
 use Rattle.orb_engine.specs.Recording as cut
 use Rattle.orb_engine.specs.Recording.{Tail, IsTail, spell_heads, spell_tail, is_open}
@@ -18,8 +18,8 @@ pub data Ask : Type 0 where
   AskOpens : Ask
   AskLong : Ask
   AskBad : (head : List ℕ) → BadKind → Ask
-  AskFull : Request → Ask
-  Asked : Request → (rest : List ℕ) → Ask
+  AskFull : RequestText → Ask
+  Asked : RequestText → (rest : List ℕ) → Ask
 
 -- a response at the front of some bytes
 pub data Answer : Type 0 where
@@ -27,7 +27,7 @@ pub data Answer : Type 0 where
   AnswerOpens : Answer
   AnswerLong : Answer
   AnswerBad : (head : List ℕ) → BadKind → Answer
-  Answered : Response → (rest : List ℕ) → Answer
+  Answered : ResponseText → (rest : List ℕ) → Answer
 
 abbrev pub IsAsk : States → List ℕ → Ask → Type 0
 IsAsk table l AskOpens = view l ≡ Opens
@@ -46,27 +46,27 @@ IsAnswer to_head l (AnswerBad head kind) =
     (rest : List ℕ) × (view l ≡ Stands head rest) × ReadsResponseHead head to_head (Err kind)
 IsAnswer to_head l (Answered r rest) = (view l ≡ Stands r.bytes rest) × IsResponseHead to_head r
 
--- the response is looked at only behind a good request
+-- the response is looked at only after a good request
 abbrev pub OnlyFills : Ask → Answer → Type 0
 OnlyFills (Asked r rest) answer = IsAnswer r.asks.is_head rest answer
 OnlyFills _ answer = answer ≡ NoAnswer
 
 -- ---- one request
 
-request_by : (r q : Request) → r.bytes ≡ q.bytes → r.asks ≡ q.asks → r ≡ q
+request_by : (r q : RequestText) → r.bytes ≡ q.bytes → r.asks ≡ q.asks → r ≡ q
 request_by r q p e =
     same r.bytes q.bytes r.asks q.asks p e
   where
     same : (b c : List ℕ) (a d : RequestHead) → b ≡ c → a ≡ d
-        → ◌≡◌ {A = Request} (record { bytes = b; asks = a }) (record { bytes = c; asks = d })
+        → ◌≡◌ {A = RequestText} (record { bytes = b; asks = a }) (record { bytes = c; asks = d })
     same b c a d p e = rw (p, e) refl
 
-same_asks : (r q : Request) → r.bytes ≡ q.bytes → ReadsRequestHead r.bytes (Ok r.asks) → ReadsRequestHead q.bytes (Ok q.asks)
+same_asks : (r q : RequestText) → r.bytes ≡ q.bytes → ReadsRequestHead r.bytes (Ok r.asks) → ReadsRequestHead q.bytes (Ok q.asks)
     → r.asks ≡ q.asks
 same_asks r q same x y =
     ask_once r.bytes r.asks q.asks x (subst (λ b. ReadsRequestHead b (Ok q.asks)) (sym same) y)
 
-clash_ask : (head : List ℕ) (k : BadKind) (r : Request) → head ≡ r.bytes → ReadsRequestHead head (Err k)
+clash_ask : (head : List ℕ) (k : BadKind) (r : RequestText) → head ≡ r.bytes → ReadsRequestHead head (Err k)
     → ReadsRequestHead r.bytes (Ok r.asks) → ⊥
 clash_ask head k r same x y = ask_or_bad r.bytes r.asks k y (subst (λ b. ReadsRequestHead b (Err k)) same x)
 
@@ -95,12 +95,12 @@ one_ask table l (Asked r rest) (AskFull q) x y =
     absurd (x.2 (subst (λ a. IsRefusedId table (id_of a)) (same_asks q r same y.2 x.1) y.3))
 one_ask table l (Asked r rest) (Asked q others) x y =
     let same : r.bytes ≡ q.bytes = cc in
-    let behind : rest ≡ others = cc in
+    let after : rest ≡ others = cc in
     let request : r ≡ q = request_by r q same (same_asks r q same x.1 y.1) in cc
 
 -- ---- one response
 
-clash_answer : (head : List ℕ) (k : BadKind) (r : Response) (to_head : Bool) → head ≡ r.bytes
+clash_answer : (head : List ℕ) (k : BadKind) (r : ResponseText) (to_head : Bool) → head ≡ r.bytes
     → ReadsResponseHead head to_head (Err k) → IsResponseHead to_head r → ⊥
 clash_answer head k r to_head same x y =
     response_or_bad r to_head k y (subst (λ b. ReadsResponseHead b to_head (Err k)) same x)
@@ -122,10 +122,10 @@ one_answer to_head l (AnswerBad head kind) (Answered q rest) x y = absurd (clash
 one_answer to_head l (Answered r rest) (AnswerBad head kind) x y = absurd (clash_answer head kind r to_head (cc) y.2 x.1)
 one_answer to_head l (Answered r rest) (Answered q others) x y =
     let same : r.bytes ≡ q.bytes = cc in
-    let behind : rest ≡ others = cc in
+    let after : rest ≡ others = cc in
     let response : r ≡ q = response_once to_head r q same x.1 y.1 in cc
 
--- behind one request
+-- after one request
 one_behind : (ask : Ask) (a b : Answer) → OnlyFills ask a → OnlyFills ask b → a ≡ b
 one_behind AskOpens a b x y = x ∙ sym y
 one_behind AskLong a b x y = x ∙ sym y
@@ -148,9 +148,9 @@ one_start table l a b x y p q =
 -- ---- of a tail
 
 abbrev pub ask_of : Tail → (more : List ℕ) → Ask
-ask_of (cut.Asking head) more = AskOpens
-ask_of (cut.Answering r head) more = Asked r (head ++ more)
-ask_of (cut.Sending h sent body) more = Asked h.request (h.response.bytes ++ (sent ++ more))
+ask_of (cut.InRequestHead head) more = AskOpens
+ask_of (cut.InResponseHead r head) more = Asked r (head ++ more)
+ask_of (cut.InBody h sent body) more = Asked h.request (h.response.bytes ++ (sent ++ more))
 ask_of (cut.LongRequest head) more = AskLong
 ask_of (cut.BadRequest head kind) more = AskBad head kind
 ask_of (cut.FullTable r) more = AskFull r
@@ -160,9 +160,9 @@ ask_of (cut.BadBody h sent body b) more = Asked h.request (h.response.bytes ++ (
 ask_of (cut.Undecided h sent body) more = Asked h.request (h.response.bytes ++ (sent ++ more))
 
 abbrev pub answer_of : Tail → (more : List ℕ) → Answer
-answer_of (cut.Asking head) more = NoAnswer
-answer_of (cut.Answering r head) more = AnswerOpens
-answer_of (cut.Sending h sent body) more = Answered h.response (sent ++ more)
+answer_of (cut.InRequestHead head) more = NoAnswer
+answer_of (cut.InResponseHead r head) more = AnswerOpens
+answer_of (cut.InBody h sent body) more = Answered h.response (sent ++ more)
 answer_of (cut.LongRequest head) more = NoAnswer
 answer_of (cut.BadRequest head kind) more = NoAnswer
 answer_of (cut.FullTable r) more = NoAnswer
@@ -171,7 +171,7 @@ answer_of (cut.BadResponse r head kind) more = AnswerBad head kind
 answer_of (cut.BadBody h sent body b) more = Answered h.response (sent ++ (b ∷ more))
 answer_of (cut.Undecided h sent body) more = Answered h.response (sent ++ more)
 
-asked : (table : States) (r : Request) (rest : List ℕ) → IsRequestIn table r → IsAsk table (r.bytes ++ rest) (Asked r rest)
+asked : (table : States) (r : RequestText) (rest : List ℕ) → IsRequestIn table r → IsAsk table (r.bytes ++ rest) (Asked r rest)
 asked table r rest h = (view-stands r.bytes rest h.head.text, h.head.reads, h.room)
 
 pub start_of_heads : (table : States) (h : Heads) (rest : List ℕ) → AreHeads table h
@@ -187,12 +187,12 @@ opens head more none h = ap view (ap (λ l. head ++ l) none ∙ append-nil head)
 
 pub start_of_tail : (s : Settings) (table : States) (t : Tail) (more : List ℕ) → IsTail s table t
     → (is_open t ≡ true → more ≡ []) → IsStart table (spell_tail t more) (ask_of t more) (answer_of t more)
-start_of_tail s table (cut.Asking head) more h last = record { asks = opens head more (last refl) h; answers = refl }
-start_of_tail s table (cut.Answering r head) more h last = record {
+start_of_tail s table (cut.InRequestHead head) more h last = record { asks = opens head more (last refl) h; answers = refl }
+start_of_tail s table (cut.InResponseHead r head) more h last = record {
   asks = asked table r (head ++ more) h.0;
   answers = opens head more (last refl) h.1;
 }
-start_of_tail s table (cut.Sending g sent body) more h last = start_of_heads table g (sent ++ more) h.heads
+start_of_tail s table (cut.InBody g sent body) more h last = start_of_heads table g (sent ++ more) h.heads
 start_of_tail s table (cut.LongRequest head) more h last = record { asks = view-long head more h; answers = refl }
 start_of_tail s table (cut.BadRequest head kind) more h last = record {
   asks = (more, view-stands head more h.0, h.1);
@@ -223,6 +223,6 @@ same_heads h k a b m n asks answers =
     let rests : m ≡ n = cc in
     (both h.request k.request h.response k.response first second, rests)
   where
-    both : (r q : Request) (p o : Response) → r ≡ q → p ≡ o
+    both : (r q : RequestText) (p o : ResponseText) → r ≡ q → p ≡ o
         → ◌≡◌ {A = Heads} (record { request = r; response = p }) (record { request = q; response = o })
     both r q p o e d = rw (e, d) refl

@@ -21,16 +21,16 @@ use Rattle.http_exchange.specs.declared.unframing.Unframer.{Unframer}
 use Rattle.http_exchange.proofs.UnframerLemmas.{whole_read}
 use Rattle.orb_engine.specs.declared.settings.Settings.{Settings}
 use Rattle.orb_engine.specs.declared.engine.Engine.{Engine}
-use Rattle.orb_engine.specs.Heads.{Heads, AreHeads, exchange_of, judged_by}
+use Rattle.orb_engine.specs.Heads.{Heads, AreHeads, response_of, judged_by}
 use Rattle.orb_engine.specs.Recording as cut
-use Rattle.orb_engine.specs.Recording.{Item, Recording, AreItems, IsRecording, spell_heads, spell_items}
-use Rattle.orb_engine.specs.Outputs.{output_of, written_items, written_front}
+use Rattle.orb_engine.specs.Recording.{Exchange, Recording, AreExchanges, IsRecording, spell_heads, spell_exchanges}
+use Rattle.orb_engine.specs.Outputs.{output_of, written_exchanges, written_so_far}
 use Rattle.orb_engine.specs.Reads.{open_cut, table_of, IsTold, Breaks}
-use Rattle.orb_engine.proofs.CutLemmas.{spell_items-snoc, items-snoc}
-use Rattle.orb_engine.proofs.OutputLaws.{written_front-undecided}
+use Rattle.orb_engine.proofs.CutLemmas.{spell_exchanges-snoc, exchanges-snoc}
+use Rattle.orb_engine.proofs.OutputLaws.{written_so_far-undecided}
 use Rattle.orb_engine.proofs.BodyLaws.{text-rule}
-use Rattle.orb_engine.proofs.ClosingLemmas.{front-in-whole}
-use Rattle.orb_engine.proofs.FillLemmas.{empty-open, output-undecided, output-sending, closed-output}
+use Rattle.orb_engine.proofs.ClosingLemmas.{so_far-in-whole}
+use Rattle.orb_engine.proofs.FillLemmas.{empty-open, output-undecided, output-body, closed-output}
 
 -- content is no longer than the bytes in which it is sent
 content-short : (k : List Mark) → length (content_of k) ≤ length (bytes_of k)
@@ -65,85 +65,85 @@ whole-or-not Rest (frame.Length n) m g h = absurd h
 whole-or-not Rest frame.Chunked m g h = absurd h
 
 -- a recording of the bytes up to those of a body that have come, whose output begins with what is written of these
-pub record IsSeen (s : Settings) (m : List ℕ) (items : List Item) (wrote : List ℕ) : Type 0 where
+pub record IsSeen (s : Settings) (m : List ℕ) (exchanges : List Exchange) (wrote : List ℕ) : Type 0 where
   pub recording : Recording
   pub cut : IsRecording s m recording
   pub within : IsPrefix wrote (output_of s recording false)
-  pub others : List Item
-  pub are : recording.items ≡ items ++ others
+  pub others : List Exchange
+  pub are : recording.exchanges ≡ exchanges ++ others
 
-pub seen-body : (s : Settings) (m : List ℕ) (items : List Item) (h : Heads) (sent body : List ℕ) (u : Unframer)
-    → m ≡ spell_items items (spell_heads h sent) → AreItems s map.empty items → AreHeads (table_of items) h
+pub seen-body : (s : Settings) (m : List ℕ) (exchanges : List Exchange) (h : Heads) (sent body : List ℕ) (u : Unframer)
+    → m ≡ spell_exchanges exchanges (spell_heads h sent) → AreExchanges s map.empty exchanges → AreHeads (table_of exchanges) h
     → IsFront h.response.frame sent body → UnframerHasRead u h.response.frame sent body
-    → IsSeen s m items (written_items s map.empty 0 items ++ written_front s.job (exchange_of s (table_of items) h) body)
-seen-body s m items h sent body u spells whole good front reads =
+    → IsSeen s m exchanges (written_exchanges s map.empty 0 exchanges ++ written_so_far s.job (response_of s (table_of exchanges) h) body)
+seen-body s m exchanges h sent body u spells whole good front reads =
     elim (whole-or-not u h.response.frame sent body reads.stands) [
-      | inl ended ↦ by_rule (window_rule_of (judged_by s (table_of items) h) body) refl ended
-      | inr unfinished ↦ by_text (is_in_text (judged_by s (table_of items) h) body) refl unfinished
+      | inl ended ↦ by_rule (window_rule_of (judged_by s (table_of exchanges) h) body) refl ended
+      | inr unfinished ↦ by_text (is_in_text (judged_by s (table_of exchanges) h) body) refl unfinished
     ]
   where
-    spelled : m ≡ spell_items items (spell_heads h (sent ++ []))
-    spelled = spells ∙ ap (λ t. spell_items items (spell_heads h t)) (sym (append-nil sent))
+    spelled : m ≡ spell_exchanges exchanges (spell_heads h (sent ++ []))
+    spelled = spells ∙ ap (λ t. spell_exchanges exchanges (spell_heads h t)) (sym (append-nil sent))
 
-    undecided : cut.IsUndecided s (table_of items) h sent body → window_rule_of (judged_by s (table_of items) h) body ≡ None
-        → IsSeen s m items (written_items s map.empty 0 items ++ written_front s.job (exchange_of s (table_of items) h) body)
+    undecided : cut.IsUndecided s (table_of exchanges) h sent body → window_rule_of (judged_by s (table_of exchanges) h) body ≡ None
+        → IsSeen s m exchanges (written_exchanges s map.empty 0 exchanges ++ written_so_far s.job (response_of s (table_of exchanges) h) body)
     undecided tail none = record {
-      recording = record { items = items; tail = cut.Undecided h sent body; more = [] };
-      cut = record { spells = spelled; items = whole; tail = tail; last = λ _. refl };
+      recording = record { exchanges = exchanges; tail = cut.Undecided h sent body; more = [] };
+      cut = record { spells = spelled; exchanges = whole; tail = tail; last = λ _. refl };
       within = (
         [],
-        sym (append-nil _ ∙ ap (λ t. written_items s map.empty 0 items ++ t)
-            (written_front-undecided s.job (exchange_of s (table_of items) h) body []
-            (ap (window_rule_of (judged_by s (table_of items) h)) (append-nil body) ∙ none))
-            ∙ append-nil _ ∙ sym (output-undecided s items h sent body [] false)),
+        sym (append-nil _ ∙ ap (λ t. written_exchanges s map.empty 0 exchanges ++ t)
+            (written_so_far-undecided s.job (response_of s (table_of exchanges) h) body []
+            (ap (window_rule_of (judged_by s (table_of exchanges) h)) (append-nil body) ∙ none))
+            ∙ append-nil _ ∙ sym (output-undecided s exchanges h sent body [] false)),
       );
       others = [];
-      are = sym (append-nil items);
+      are = sym (append-nil exchanges);
     }
 
-    by_rule : (o : Option Rule) → window_rule_of (judged_by s (table_of items) h) body ≡ o → IsWhole h.response.frame sent
-        → IsSeen s m items (written_items s map.empty 0 items ++ written_front s.job (exchange_of s (table_of items) h) body)
+    by_rule : (o : Option Rule) → window_rule_of (judged_by s (table_of exchanges) h) body ≡ o → IsWhole h.response.frame sent
+        → IsSeen s m exchanges (written_exchanges s map.empty 0 exchanges ++ written_so_far s.job (response_of s (table_of exchanges) h) body)
     by_rule None is ended = undecided (record { heads = good; front = front; undecided = inr (ended, is) }) is
     by_rule (Some r) is ended =
-        let i : Item = record { heads = h; sent = sent; body = body; rule = r } in
+        let i : Exchange = record { heads = h; sent = sent; body = body; rule = r } in
         record {
-          recording = open_cut (items ++ (i ∷ [])) (cut.Asking []);
+          recording = open_cut (exchanges ++ (i ∷ [])) (cut.InRequestHead []);
           cut = record {
-            spells = spelled ∙ sym (spell_items-snoc items i []);
-            items = items-snoc s map.empty items i whole (record { heads = good; front = front; whole = ended; decided = is });
+            spells = spelled ∙ sym (spell_exchanges-snoc exchanges i []);
+            exchanges = exchanges-snoc s map.empty exchanges i whole (record { heads = good; front = front; whole = ended; decided = is });
             tail = empty-open;
             last = λ _. refl;
           };
-          within = subst (λ (t : List ℕ). IsPrefix (written_items s map.empty 0 items ++ written_front s.job (exchange_of s (table_of items) h) body) t)
-              (closed-output s (record { items = items; heads = h; sent = sent; body = body }) r)
-              (IsPrefix-after (written_items s map.empty 0 items) _ _ (front-in-whole s.job (length items + 1) (exchange_of s (table_of items) h) body));
+          within = subst (λ (t : List ℕ). IsPrefix (written_exchanges s map.empty 0 exchanges ++ written_so_far s.job (response_of s (table_of exchanges) h) body) t)
+              (closed-output s (record { exchanges = exchanges; heads = h; sent = sent; body = body }) r)
+              (IsPrefix-after (written_exchanges s map.empty 0 exchanges) _ _ (so_far-in-whole s.job (length exchanges + 1) (response_of s (table_of exchanges) h) body));
           others = i ∷ [];
           are = refl;
         }
 
-    by_text : (b : Bool) → is_in_text (judged_by s (table_of items) h) body ≡ b → (IsWhole h.response.frame sent → ⊥)
-        → IsSeen s m items (written_items s map.empty 0 items ++ written_front s.job (exchange_of s (table_of items) h) body)
+    by_text : (b : Bool) → is_in_text (judged_by s (table_of exchanges) h) body ≡ b → (IsWhole h.response.frame sent → ⊥)
+        → IsSeen s m exchanges (written_exchanges s map.empty 0 exchanges ++ written_so_far s.job (response_of s (table_of exchanges) h) body)
     by_text true is unfinished =
-        undecided (record { heads = good; front = front; undecided = inl is }) (text-rule (judged_by s (table_of items) h) body is)
+        undecided (record { heads = good; front = front; undecided = inl is }) (text-rule (judged_by s (table_of exchanges) h) body is)
     by_text false is unfinished = record {
-      recording = open_cut items (cut.Sending h sent body);
+      recording = open_cut exchanges (cut.InBody h sent body);
       cut = record {
         spells = spelled;
-        items = whole;
+        exchanges = whole;
         tail = record { heads = good; front = front; unfinished = unfinished; undecided = is };
         last = λ _. refl;
       };
-      within = subst (λ (t : List ℕ). IsPrefix t (output_of s (open_cut items (cut.Sending h sent body)) false))
-          (output-sending s items h sent body [])
+      within = subst (λ (t : List ℕ). IsPrefix t (output_of s (open_cut exchanges (cut.InBody h sent body)) false))
+          (output-body s exchanges h sent body [])
           (IsPrefix-all _);
       others = [];
-      are = sym (append-nil items);
+      are = sym (append-nil exchanges);
     }
 
 -- a fault while a body was written
-pub breaks-body : (e : Engine) (s : Settings) (m given more : List ℕ) (items : List Item) (wrote : List ℕ)
-    → IsTold e.progress.told s items given → IsPrefix (given ++ more) wrote → IsSeen s m items wrote → Breaks e s m false (given ++ more)
-breaks-body e s m given more items wrote told within seen = record {
+pub breaks-body : (e : Engine) (s : Settings) (m given more : List ℕ) (exchanges : List Exchange) (wrote : List ℕ)
+    → IsTold e.progress.told s exchanges given → IsPrefix (given ++ more) wrote → IsSeen s m exchanges wrote → Breaks e s m false (given ++ more)
+breaks-body e s m given more exchanges wrote told within seen = record {
   seen = m;
   unseen = [];
   all = sym (append-nil m);
@@ -152,9 +152,9 @@ breaks-body e s m given more items wrote told within seen = record {
   cut = seen.cut;
   within = IsPrefix-trans _ wrote _ within seen.within;
   told = record {
-    front = told.front;
+    prefix = told.prefix;
     others = told.others ++ seen.others;
-    are = seen.are ∙ ap (λ t. t ++ seen.others) told.are ∙ append_assoc told.front told.others seen.others;
+    are = seen.are ∙ ap (λ t. t ++ seen.others) told.are ∙ append_assoc told.prefix told.others seen.others;
     numbers = told.numbers;
     whole = IsPrefix-trans _ given _ told.whole (IsPrefix-append given more);
   };

@@ -11,7 +11,7 @@ use Rattle.http_exchange.proofs.UnframerLemmas.{one_front, last_byte}
 use Rattle.orb_engine.specs.declared.settings.Settings.{Settings}
 use Rattle.orb_engine.specs.Heads.{Heads, judged_by}
 use Rattle.orb_engine.specs.Recording as cut
-use Rattle.orb_engine.specs.Recording.{Item, Tail, IsItem, IsTail, IsSending, IsBadBody, IsUndecided, spell_item, spell_tail, is_open}
+use Rattle.orb_engine.specs.Recording.{Exchange, Tail, IsExchange, IsTail, IsOpenBody, IsBadBody, IsUndecided, spell_exchange, spell_tail, is_open}
 use Rattle.orb_engine.specs.Ends.{Bad, HeadLimit, stop_at}
 use Rattle.orb_engine.specs.Outputs.{written_tail}
 use Rattle.orb_engine.specs.Counts.{rules_of_tail}
@@ -20,20 +20,20 @@ use Rattle.orb_engine.proofs.StartLaws.{IsStart, one_start, ask_of, answer_of, s
 
 -- two tails of which the same is answered
 pub record IsAlike (s : Settings) (t u : Tail) : Type 0 where
-  pub stop : (table : States) (place : ℕ) (ended : Bool) → stop_at s table place ended t ≡ stop_at s table place ended u
+  pub stop : (table : States) (offset : ℕ) (ended : Bool) → stop_at s table offset ended t ≡ stop_at s table offset ended u
   pub written : (table : States) (before : ℕ) (ended : Bool) → written_tail s table before ended t ≡ written_tail s table before ended u
   pub rules : (table : States) (ended : Bool) → rules_of_tail s table ended t ≡ rules_of_tail s table ended u
 
 same_alike : (s : Settings) (t u : Tail) → t ≡ u → IsAlike s t u
 same_alike s t u e = record {
-  stop = λ table place ended. ap (stop_at s table place ended) e;
+  stop = λ table offset ended. ap (stop_at s table offset ended) e;
   written = λ table before ended. ap (written_tail s table before ended) e;
   rules = λ table ended. ap (rules_of_tail s table ended) e;
 }
 
 undecided_alike : (s : Settings) (h k : Heads) (m n g c : List ℕ) → h ≡ k → IsAlike s (cut.Undecided h m g) (cut.Undecided k n c)
 undecided_alike s h k m n g c e = record {
-  stop = λ table place ended. ap (λ j. stop_at s table place ended (cut.Undecided j m g)) e;
+  stop = λ table offset ended. ap (λ j. stop_at s table offset ended (cut.Undecided j m g)) e;
   written = λ table before ended. refl;
   rules = λ table ended. refl;
 }
@@ -42,7 +42,7 @@ undecided_alike s h k m n g c e = record {
 
 -- a body that is whole or read as text isn't one that may go on
 pub reached_not_sending : (s : Settings) (table : States) (h : Heads) (m r n g c : List ℕ)
-    → IsReached (judged_by s table h) h.response.frame m g → IsFront h.response.frame m g → IsSending s table h n c
+    → IsReached (judged_by s table h) h.response.frame m g → IsFront h.response.frame m g → IsOpenBody s table h n c
     → m ++ r ≡ n → ⊥
 reached_not_sending s table h m r n g c reached x y e =
     not_behind (judged_by s table h) h.response.frame m r g c reached x
@@ -58,7 +58,7 @@ reached_not_bad s table h m r n q g c b reached x y e =
     reached_not_sending s table h m k.0 n g c reached x y.sending (sym k.1)
 
 sending_not_bad : (s : Settings) (table : States) (h : Heads) (m n q g c : List ℕ) (b : ℕ)
-    → IsSending s table h m g → IsBadBody s table h n c b → m ≡ n ++ (b ∷ q) → ⊥
+    → IsOpenBody s table h m g → IsBadBody s table h n c b → m ≡ n ++ (b ∷ q) → ⊥
 sending_not_bad s table h m n q g c b x y e =
     let k = within_stuck h.response.frame m [] n q g b y.bad x.front (append-nil m ∙ e) in
     let long : length m ≡ length n + length (b ∷ q) = ap length e ∙ length-append n (b ∷ q) in
@@ -98,8 +98,8 @@ item_not_undecided s table h m r n q g c rule x whole decided y e =
           none-some rule (sym none.1 ∙ ap (window_rule_of (judged_by s table h)) (sym contents) ∙ decided)
     ]
 
-same_sending : (s : Settings) (table : States) (h : Heads) (m n g c : List ℕ) → IsSending s table h m g → IsSending s table h n c
-    → m ≡ n → cut.Sending h m g ≡ cut.Sending h n c
+same_sending : (s : Settings) (table : States) (h : Heads) (m n g c : List ℕ) → IsOpenBody s table h m g → IsOpenBody s table h n c
+    → m ≡ n → cut.InBody h m g ≡ cut.InBody h n c
 same_sending s table h m n g c x y same =
     let contents : g ≡ c =
     one_front h.response.frame m g c x.front (subst (λ l. IsFront h.response.frame l c) (sym same) y.front) in cc
@@ -126,7 +126,7 @@ same_bad s table h m r n q g c b d x y e =
 
 -- ---- two tails that begin the same bytes
 
--- what stands behind the heads, in the words of the other's
+-- what stands after the heads, in the words of the other's
 pub moved : (P : Heads → Type 0) (h k : Heads) → h ≡ k → P k → P h
 moved P h k e y = subst P (sym e) y
 
@@ -138,21 +138,21 @@ alike_by : (s : Settings) (table : States) (t : Tail) (more : List ℕ) (u : Tai
     → IsTail s table t → IsTail s table u → (is_open t ≡ true → more ≡ []) → (is_open u ≡ true → others ≡ [])
     → spell_tail t more ≡ spell_tail u others
     → ask_of t more ≡ ask_of u others → answer_of t more ≡ answer_of u others → IsAlike s t u
-alike_by s table (cut.Asking head) more (cut.Asking text) others x y last end e a b =
+alike_by s table (cut.InRequestHead head) more (cut.InRequestHead text) others x y last end e a b =
     let none : more ≡ [] = last refl in
     let nothing : others ≡ [] = end refl in
     let same : head ≡ text =
     sym (append-nil head) ∙ ap (λ l. head ++ l) (sym none) ∙ e ∙ ap (λ l. text ++ l) nothing ∙ append-nil text in
-    same_alike s (cut.Asking head) (cut.Asking text) (ap cut.Asking same)
-alike_by s table (cut.Asking head) more _ others x y last end e a b = absurd (cc)
-alike_by s table (cut.Answering r head) more (cut.Answering q text) others x y last end e a b = record {
-  stop = λ table place ended. refl;
+    same_alike s (cut.InRequestHead head) (cut.InRequestHead text) (ap cut.InRequestHead same)
+alike_by s table (cut.InRequestHead head) more _ others x y last end e a b = absurd (cc)
+alike_by s table (cut.InResponseHead r head) more (cut.InResponseHead q text) others x y last end e a b = record {
+  stop = λ table offset ended. refl;
   written = λ table before ended. refl;
   rules = λ table ended. refl;
 }
-alike_by s table (cut.Answering r head) more _ others x y last end e a b = absurd (cc)
+alike_by s table (cut.InResponseHead r head) more _ others x y last end e a b = absurd (cc)
 alike_by s table (cut.LongRequest head) more (cut.LongRequest text) others x y last end e a b = record {
-  stop = λ table place ended. refl;
+  stop = λ table offset ended. refl;
   written = λ table before ended. refl;
   rules = λ table ended. refl;
 }
@@ -160,13 +160,13 @@ alike_by s table (cut.LongRequest head) more _ others x y last end e a b = absur
 alike_by s table (cut.BadRequest head kind) more (cut.BadRequest text other) others x y last end e a b =
     let kinds : kind ≡ other = cc in
     record {
-      stop = λ table place ended. ap (λ k. Bad k place) kinds;
+      stop = λ table offset ended. ap (λ k. Bad k offset) kinds;
       written = λ table before ended. refl;
       rules = λ table ended. refl;
     }
 alike_by s table (cut.BadRequest head kind) more _ others x y last end e a b = absurd (cc)
 alike_by s table (cut.FullTable r) more (cut.FullTable q) others x y last end e a b = record {
-  stop = λ table place ended. refl;
+  stop = λ table offset ended. refl;
   written = λ table before ended. refl;
   rules = λ table ended. refl;
 }
@@ -174,7 +174,7 @@ alike_by s table (cut.FullTable r) more _ others x y last end e a b = absurd (cc
 alike_by s table (cut.LongResponse r head) more (cut.LongResponse q text) others x y last end e a b =
     let requests : r ≡ q = cc in
     record {
-      stop = λ table place ended. ap (λ k. HeadLimit (place + length k.bytes)) requests;
+      stop = λ table offset ended. ap (λ k. HeadLimit (offset + length k.bytes)) requests;
       written = λ table before ended. refl;
       rules = λ table ended. refl;
     }
@@ -183,28 +183,28 @@ alike_by s table (cut.BadResponse r head kind) more (cut.BadResponse q text othe
     let requests : r ≡ q = cc in
     let kinds : kind ≡ other = cc in
     record {
-      stop = λ table place ended. ap (λ k. Bad kind (place + length k.bytes)) requests ∙ ap (λ k. Bad k (place + length q.bytes)) kinds;
+      stop = λ table offset ended. ap (λ k. Bad kind (offset + length k.bytes)) requests ∙ ap (λ k. Bad k (offset + length q.bytes)) kinds;
       written = λ table before ended. refl;
       rules = λ table ended. refl;
     }
 alike_by s table (cut.BadResponse r head kind) more _ others x y last end e a b = absurd (cc)
-alike_by s table (cut.Sending h m g) more (cut.Sending k n c) others x y last end e a b =
+alike_by s table (cut.InBody h m g) more (cut.InBody k n c) others x y last end e a b =
     let p = same_heads h k _ _ (m ++ more) (n ++ others) a b in
     let same : m ≡ n = sym (alone m more (last refl)) ∙ p.1 ∙ alone n others (end refl) in
-    let moves : IsSending s table h n c = moved (λ j. IsSending s table j n c) h k p.0 y in
-    same_alike s (cut.Sending h m g) (cut.Sending k n c)
-    (same_sending s table h m n g c x moves same ∙ ap (λ j. cut.Sending j n c) p.0)
-alike_by s table (cut.Sending h m g) more (cut.BadBody k n c d) others x y last end e a b =
+    let moves : IsOpenBody s table h n c = moved (λ j. IsOpenBody s table j n c) h k p.0 y in
+    same_alike s (cut.InBody h m g) (cut.InBody k n c)
+    (same_sending s table h m n g c x moves same ∙ ap (λ j. cut.InBody j n c) p.0)
+alike_by s table (cut.InBody h m g) more (cut.BadBody k n c d) others x y last end e a b =
     let p = same_heads h k _ _ (m ++ more) (n ++ (d ∷ others)) a b in
     absurd (sending_not_bad s table h m n others g c d x (moved (λ j. IsBadBody s table j n c d) h k p.0 y) (sym (alone m more (last refl)) ∙ p.1))
-alike_by s table (cut.Sending h m g) more (cut.Undecided k n c) others x y last end e a b =
+alike_by s table (cut.InBody h m g) more (cut.Undecided k n c) others x y last end e a b =
     let p = same_heads h k _ _ (m ++ more) (n ++ others) a b in
     let moves : IsUndecided s table h n c = moved (λ j. IsUndecided s table j n c) h k p.0 y in
     absurd (reached_not_sending s table h n others m c g (undecided_reached s table h n c moves) moves.front x (sym p.1 ∙ alone m more (last refl)))
-alike_by s table (cut.Sending h m g) more _ others x y last end e a b = absurd (cc)
-alike_by s table (cut.BadBody h m g d) more (cut.Sending k n c) others x y last end e a b =
+alike_by s table (cut.InBody h m g) more _ others x y last end e a b = absurd (cc)
+alike_by s table (cut.BadBody h m g d) more (cut.InBody k n c) others x y last end e a b =
     let p = same_heads h k _ _ (m ++ (d ∷ more)) (n ++ others) a b in
-    absurd (sending_not_bad s table h n m more c g d (moved (λ j. IsSending s table j n c) h k p.0 y) x (sym (alone n others (end refl)) ∙ sym p.1))
+    absurd (sending_not_bad s table h n m more c g d (moved (λ j. IsOpenBody s table j n c) h k p.0 y) x (sym (alone n others (end refl)) ∙ sym p.1))
 alike_by s table (cut.BadBody h m g d) more (cut.BadBody k n c f) others x y last end e a b =
     let p = same_heads h k _ _ (m ++ (d ∷ more)) (n ++ (f ∷ others)) a b in
     let moves : IsBadBody s table h n c f = moved (λ j. IsBadBody s table j n c f) h k p.0 y in
@@ -215,9 +215,9 @@ alike_by s table (cut.BadBody h m g d) more (cut.Undecided k n c) others x y las
     let moves : IsUndecided s table h n c = moved (λ j. IsUndecided s table j n c) h k p.0 y in
     absurd (reached_not_bad s table h n others m more c g d (undecided_reached s table h n c moves) moves.front x (sym p.1))
 alike_by s table (cut.BadBody h m g d) more _ others x y last end e a b = absurd (cc)
-alike_by s table (cut.Undecided h m g) more (cut.Sending k n c) others x y last end e a b =
+alike_by s table (cut.Undecided h m g) more (cut.InBody k n c) others x y last end e a b =
     let p = same_heads h k _ _ (m ++ more) (n ++ others) a b in
-    absurd (reached_not_sending s table h m more n g c (undecided_reached s table h m g x) x.front (moved (λ j. IsSending s table j n c) h k p.0 y) (p.1 ∙ alone n others (end refl)))
+    absurd (reached_not_sending s table h m more n g c (undecided_reached s table h m g x) x.front (moved (λ j. IsOpenBody s table j n c) h k p.0 y) (p.1 ∙ alone n others (end refl)))
 alike_by s table (cut.Undecided h m g) more (cut.BadBody k n c d) others x y last end e a b =
     let p = same_heads h k _ _ (m ++ more) (n ++ (d ∷ others)) a b in
     absurd (reached_not_bad s table h m more n others g c d (undecided_reached s table h m g x) x.front (moved (λ j. IsBadBody s table j n c d) h k p.0 y) p.1)

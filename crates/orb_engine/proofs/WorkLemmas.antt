@@ -1,11 +1,11 @@
 -- What the two jobs put of one exchange.
 use Rattle.std.proofs.Common.{◌≡◌, ℕ, ◌+◌, ◌*◌, ◌^◌, ◌≤◌, ◌<◌, Bool, true, false, List, [], length, length-append, lit≤, Option, Some, None, refl, sym, ap, subst, ◌∙◌, arith}
-use Rattle.body_filter.proofs.LawLemmas.{front-length, output-length}
+use Rattle.body_filter.proofs.LawLemmas.{so_far-length, output-length}
 use Rattle.response_rules.specs.declared.deciding.Decider.{Decider}
 use Rattle.response_rules.specs.declared.verdicts.Verdict.{Verdict}
 use Rattle.response_rules.specs.Tables.{window_rule_of}
 use Rattle.response_rules.specs.Reads.{HasRead as DeciderHasRead, IsVerdict}
-use Rattle.body_filter.specs.Exchanges.{Exchange, front_of, whole_of}
+use Rattle.body_filter.specs.Responses.{Response, output_so_far, whole_output}
 use Rattle.body_filter.specs.Reads.{HasRead as FilterHasRead, limit_of}
 use Rattle.body_filter.specs.declared.filtering.Filter.{Filter}
 use Rattle.orb_engine.specs.declared.settings.Settings.{Settings}
@@ -25,22 +25,22 @@ use Rattle.response_rules.specs.Heads.{Head}
 use Rattle.response_rules.specs.Tables.{window_size}
 use Rattle.response_rules.specs.Settled.{is_in_text}
 use Rattle.response_rules.proofs.NameLemmas.{name-short}
-use Rattle.orb_engine.specs.Outputs.{verdict_name, line_of, line_by, written_front, written_whole}
+use Rattle.orb_engine.specs.Outputs.{verdict_name, line_of, line_by, written_so_far, written_whole}
 use Rattle.orb_engine.specs.Workers.{IsWorkerFor, WorkerReads}
 
-pub front-filter : (j : Job) (x : Exchange) (m : List ℕ) → j ≡ job.Filter → written_front j x m ≡ front_of x m
-unfolding written_front
-front-filter j x m is = rw is refl
+pub so_far-filter : (j : Job) (x : Response) (m : List ℕ) → j ≡ job.Filter → written_so_far j x m ≡ output_so_far x m
+unfolding written_so_far
+so_far-filter j x m is = rw is refl
 
-pub front-explain : (j : Job) (x : Exchange) (m : List ℕ) → j ≡ job.Explain → written_front j x m ≡ []
-unfolding written_front
-front-explain j x m is = rw is refl
+pub so_far-explain : (j : Job) (x : Response) (m : List ℕ) → j ≡ job.Explain → written_so_far j x m ≡ []
+unfolding written_so_far
+so_far-explain j x m is = rw is refl
 
-pub whole-filter : (j : Job) (n : ℕ) (x : Exchange) (m : List ℕ) → j ≡ job.Filter → written_whole j n x m ≡ whole_of x m
+pub whole-filter : (j : Job) (n : ℕ) (x : Response) (m : List ℕ) → j ≡ job.Filter → written_whole j n x m ≡ whole_output x m
 unfolding written_whole
 whole-filter j n x m is = rw is refl
 
-pub whole-explain : (j : Job) (n : ℕ) (x : Exchange) (m : List ℕ) → j ≡ job.Explain
+pub whole-explain : (j : Job) (n : ℕ) (x : Response) (m : List ℕ) → j ≡ job.Explain
     → written_whole j n x m ≡ line_by n x (length m) (window_rule_of x.head m)
 unfolding written_whole
 whole-explain j n x m is = rw is refl
@@ -50,7 +50,7 @@ pub for-filter : (w : Worker) (f : Filter) (s : Settings) → w ≡ worker.Filte
     → (s.job ≡ job.Filter) × (limit_of f ≡ s.limit)
 for-filter w f s is h = subst (λ (v : Worker). IsWorkerFor v s) is h
 
-pub reads-filter : (w : Worker) (f : Filter) (x : Exchange) (m : List ℕ) → w ≡ worker.Filters f → WorkerReads w x m
+pub reads-filter : (w : Worker) (f : Filter) (x : Response) (m : List ℕ) → w ≡ worker.Filters f → WorkerReads w x m
     → FilterHasRead f x m
 reads-filter w f x m is h = subst (λ (v : Worker). WorkerReads v x m) is h
 
@@ -59,16 +59,16 @@ pub for-explain : (w : Worker) (d : Option Decider) (s : Settings) → w ≡ wor
     → s.job ≡ job.Explain
 for-explain w d s is h = subst (λ (v : Worker). IsWorkerFor v s) is h
 
-pub reads-explain : (w : Worker) (d : Decider) (x : Exchange) (m : List ℕ) → w ≡ worker.Explains (Some d)
+pub reads-explain : (w : Worker) (d : Decider) (x : Response) (m : List ℕ) → w ≡ worker.Explains (Some d)
     → WorkerReads w x m → DeciderHasRead d x.head m
 reads-explain w d x m is h = subst (λ (v : Worker). WorkerReads v x m) is h
 
 -- the line that is owed
-pub line-owed : (number : ℕ) (x : Exchange) (m : List ℕ) (v : Verdict) → IsVerdict x.head m v
+pub line-owed : (number : ℕ) (x : Response) (m : List ℕ) (v : Verdict) → IsVerdict x.head m v
     → line_by number x (length m) (window_rule_of x.head m) ≡ line_of number v.rule v.state (length m)
 line-owed number x m v is = rw (is.rule, is.state) refl
 
-pub line-written : (number size : ℕ) (s : Settings) (x : Exchange) (m : List ℕ) (v : Verdict) (line : List ℕ)
+pub line-written : (number size : ℕ) (s : Settings) (x : Response) (m : List ℕ) (v : Verdict) (line : List ℕ)
     → s.job ≡ job.Explain → IsVerdict x.head m v → size ≡ length m → line ≡ line_of number v.rule v.state size
     → line ≡ written_whole s.job number x m
 line-written number size s x m v line is verdict sized line_is =
@@ -76,19 +76,19 @@ line-written number size s x m v line is verdict sized line_is =
     ∙ sym (whole-explain s.job number x m is ∙ line-owed number x m v verdict)
 
 -- how much can be put
-pub front-most : (j : Job) (x : Exchange) (m : List ℕ) → length (written_front j x m) ≤ length x.bytes + 2 * length m + 128
-front-most j x m = by j refl
+pub so_far-most : (j : Job) (x : Response) (m : List ℕ) → length (written_so_far j x m) ≤ length x.bytes + 2 * length m + 128
+so_far-most j x m = by j refl
   where
-    by : (i : Job) → j ≡ i → length (written_front j x m) ≤ length x.bytes + 2 * length m + 128
-    by job.Filter is = omega (arith, ap length (front-filter j x m is), front-length x m)
-    by job.Explain is = omega (arith, ap length (front-explain j x m is))
+    by : (i : Job) → j ≡ i → length (written_so_far j x m) ≤ length x.bytes + 2 * length m + 128
+    by job.Filter is = omega (arith, ap length (so_far-filter j x m is), so_far-length x m)
+    by job.Explain is = omega (arith, ap length (so_far-explain j x m is))
 
-pub front-none : (j : Job) (x : Exchange) → length (written_front j x []) ≤ length x.bytes
-front-none j x = by j refl
+pub so_far-none : (j : Job) (x : Response) → length (written_so_far j x []) ≤ length x.bytes
+so_far-none j x = by j refl
   where
-    by : (i : Job) → j ≡ i → length (written_front j x []) ≤ length x.bytes
-    by job.Filter is = omega (arith, ap length (front-filter j x [] is), front-length x [])
-    by job.Explain is = omega (arith, ap length (front-explain j x [] is))
+    by : (i : Job) → j ≡ i → length (written_so_far j x []) ≤ length x.bytes
+    by job.Filter is = omega (arith, ap length (so_far-filter j x [] is), so_far-length x [])
+    by job.Explain is = omega (arith, ap length (so_far-explain j x [] is))
 
 state-short : (t : MediaState) → length (state_name t) ≤ 10
 state-short state.Na = lit≤ tt
@@ -109,13 +109,13 @@ line-short number size r t number_fits size_fits =
     let k = state-short t in
     simp length-append (omega arith)
 
-line-by-short : (number size : ℕ) (x : Exchange) (o : Option Rule) → number < 2 ^ 64 → size < 2 ^ 64
+line-by-short : (number size : ℕ) (x : Response) (o : Option Rule) → number < 2 ^ 64 → size < 2 ^ 64
     → length (line_by number x size o) ≤ 128
 line-by-short number size x None number_fits size_fits = omega arith
 line-by-short number size x (Some r) number_fits size_fits =
     line-short number size r (state_behind x.head.state r) number_fits size_fits
 
-pub whole-most : (s : Settings) (number : ℕ) (x : Exchange) (m : List ℕ) → number < 2 ^ 64 → length m < 2 ^ 64
+pub whole-most : (s : Settings) (number : ℕ) (x : Response) (m : List ℕ) → number < 2 ^ 64 → length m < 2 ^ 64
     → length (written_whole s.job number x m) ≤ length x.bytes + 2 * length m + 128
 whole-most s number x m number_fits size_fits = by s.job refl
   where

@@ -12,26 +12,26 @@ use Rattle.orb_engine.specs.declared.outcome.EngineOutcome.{EngineOutcome}
 use Rattle.orb_engine.specs.declared.outcome.EngineOutcome.TheVariants as outcome
 use Rattle.orb_engine.specs.Heads.{id_of, state_of, judged_by}
 use Rattle.media_state.specs.Table.{admits, keeps}
-use Rattle.orb_engine.specs.Outputs.{written_items, written_whole}
-use Rattle.orb_engine.specs.Counts.{rules_of_items}
+use Rattle.orb_engine.specs.Outputs.{written_exchanges, written_whole}
+use Rattle.orb_engine.specs.Counts.{rules_of_exchanges}
 use Rattle.orb_engine.specs.Writing.{IsWriterFor, WriterReads, gathered_by}
 use Rattle.orb_engine.specs.Reads.{Coming, coming_response, coming_written, Common, IsTold, counts_of, table_of}
 
 -- the rule of the head or the window that decides the exchange, if its body ends here
 abbrev pub coming_rule : Settings → Coming → Option Rule
-coming_rule s c = window_rule_of (judged_by s (table_of c.items) c.heads) c.body
+coming_rule s c = window_rule_of (judged_by s (table_of c.exchanges) c.heads) c.body
 
 -- what is written of the exchanges before it and of it, if its body ends here
 abbrev pub closed_written : Settings → Coming → List ℕ
 closed_written s c =
-    written_items s map.empty 0 c.items ++ written_whole s.job (length c.items + 1) (coming_response s c) c.body
+    written_exchanges s map.empty 0 c.exchanges ++ written_whole s.job (length c.exchanges + 1) (coming_response s c) c.body
 
 -- the body of an exchange has come whole
 pub record IsClosing (e : Engine) (s : Settings) (c : Coming) (id : Option ℕ) (given : List ℕ) : Type 0 where
-  pub common : Common e s c.items given
+  pub common : Common e s c.exchanges given
   pub gave : given ++ gathered_by e.writer ≡ coming_written s c
   pub writer : WriterReads e.writer s (coming_response s c) c.body
-  pub media : e.media ≡ admits (table_of c.items) (id_of c.heads.request.asks)
+  pub media : e.media ≡ admits (table_of c.exchanges) (id_of c.heads.request.asks)
   pub id_is : id ≡ id_of c.heads.request.asks
 
 -- a rule decides it, and the engine is after it
@@ -40,33 +40,33 @@ pub record Closed (e : Engine) (s : Settings) (c : Coming) (given : List ℕ) : 
   pub decided : coming_rule s c ≡ Some rule
   pub gave : given ++ gathered_by e.writer ≡ closed_written s c
   pub settings : e.writer.settings ≡ s
-  pub counts : e.progress.counts ≡ counts_of (rules_of_items c.items ++ (rule ∷ []))
-  pub told : IsTold e.progress.told s c.items given
+  pub counts : e.progress.counts ≡ counts_of (rules_of_exchanges c.exchanges ++ (rule ∷ []))
+  pub told : IsTold e.progress.told s c.exchanges given
   pub asking : e.state ≡ state.RequestHead
   pub head : e.head ≡ []
-  pub media : e.media ≡ keeps (table_of c.items) (id_of c.heads.request.asks) (state_behind (state_of (table_of c.items) c.heads) rule)
+  pub media : e.media ≡ keeps (table_of c.exchanges) (id_of c.heads.request.asks) (state_behind (state_of (table_of c.exchanges) c.heads) rule)
   pub writer : IsWriterFor e.writer s
-  pub place : e.progress.place ≡ e.progress.taken
+  pub offset : e.progress.offset ≡ e.progress.taken
 
 -- no rule that is built decides it, and nothing was given of it
 pub record Undecided (e : Engine) (s : Settings) (c : Coming) (given : List ℕ) : Type 0 where
   pub none : coming_rule s c ≡ None
   pub gave : given ++ gathered_by e.writer ≡ coming_written s c
-  pub common : Common e s c.items given
+  pub common : Common e s c.exchanges given
 
 -- the sink failed
 pub record ClosedBreaks (e : Engine) (s : Settings) (c : Coming) (given : List ℕ) : Type 0 where
   pub rule : Rule
   pub decided : coming_rule s c ≡ Some rule
   pub within : IsPrefix given (closed_written s c)
-  pub told : IsTold e.progress.told s c.items given
+  pub told : IsTold e.progress.told s c.exchanges given
 
 -- what closing answers, where the response begins at this place
-abbrev pub Closes : Result (Unit {0}) EngineOutcome → (place : ℕ) → Engine → Settings → Coming → (given : List ℕ) → Type 0
-Closes (Ok done) place e s c given = Closed e s c given
-Closes (Err (outcome.NotBuilt at)) place e s c given = (at ≡ place) × Undecided e s c given
-Closes (Err outcome.WriteFault) place e s c given = ClosedBreaks e s c given
-Closes (Err _) place e s c given = ⊥
+abbrev pub Closes : Result (Unit {0}) EngineOutcome → (offset : ℕ) → Engine → Settings → Coming → (given : List ℕ) → Type 0
+Closes (Ok done) offset e s c given = Closed e s c given
+Closes (Err (outcome.NotBuilt at)) offset e s c given = (at ≡ offset) × Undecided e s c given
+Closes (Err outcome.WriteFault) offset e s c given = ClosedBreaks e s c given
+Closes (Err _) offset e s c given = ⊥
 
 -- the same, where a rule decides
 abbrev pub ClosesDecided : Result (Unit {0}) EngineOutcome → Engine → Settings → Coming → (given : List ℕ) → Type 0

@@ -8,7 +8,7 @@ use Rattle.orb_engine.specs.Ends.{Done, stop_of}
 use Rattle.orb_engine.specs.Outputs.{output_of}
 use Rattle.orb_engine.specs.Runs.{run_limit}
 
--- the bytes are this recording, which ends behind a whole exchange or is empty, and one run takes so many
+-- the bytes are this recording, which ends after a whole exchange or is empty, and one run takes so many
 pub record IsWholeRecording (s : Settings) (bytes : List ℕ) (r : Recording) : Type 0 where
   pub cut : IsRecording s bytes r
   pub done : stop_of s r true ≡ Done

@@ -8,7 +8,7 @@ use Rattle.response_rules.specs.Tables.{window_rule_of}
 use Rattle.orb_engine.specs.declared.settings.Settings.{Settings}
 use Rattle.orb_engine.specs.Heads.{judged_by, is_to_end}
 use Rattle.orb_engine.specs.Recording as cut
-use Rattle.orb_engine.specs.Recording.{Item, Tail, Recording, table_behind}
+use Rattle.orb_engine.specs.Recording.{Exchange, Tail, Recording, table_after_all}
 
 abbrev pub as_list : Option Rule → List Rule
 as_list None = []
@@ -16,17 +16,17 @@ as_list (Some rule) = rule ∷ []
 
 -- the rule of a tail that is a whole exchange where the input has ended
 abbrev pub rules_of_tail : Settings → States → (ended : Bool) → Tail → List Rule
-rules_of_tail s table ended (cut.Sending h sent body) =
+rules_of_tail s table ended (cut.InBody h sent body) =
     if ended && is_to_end h.response.frame then as_list (window_rule_of (judged_by s table h) body) else []
 rules_of_tail s table ended tail = []
 
-abbrev pub rules_of_items : List Item → List Rule
-rules_of_items items = map (λ i. i.rule) items
+abbrev pub rules_of_exchanges : List Exchange → List Rule
+rules_of_exchanges exchanges = map (λ i. i.rule) exchanges
 
 -- the rules of the whole exchanges, in order
 unfoldable pub rules_of : Settings → Recording → (ended : Bool) → List Rule
 rules_of s r ended =
-    rules_of_items r.items ++ rules_of_tail s (table_behind finite.empty r.items) ended r.tail
+    rules_of_exchanges r.exchanges ++ rules_of_tail s (table_after_all finite.empty r.exchanges) ended r.tail
 
 -- how many of them allow
 abbrev pub count_allowed : List Rule → ℕ

@@ -6,8 +6,8 @@ use Rattle.media_state.specs.declared.states.MediaState.{MediaState}
 use Rattle.media_state.specs.declared.states.MediaState.TheVariants.{Na}
 use Rattle.response_rules.specs.Heads.{Head, HasEssence}
 use Rattle.response_rules.specs.Reads.{head_of}
-use Rattle.body_filter.specs.Exchanges as filter
-use Rattle.body_filter.specs.Exchanges.{Exchange}
+use Rattle.body_filter.specs.Responses as filter
+use Rattle.body_filter.specs.Responses.{Response}
 use Rattle.http_exchange.specs.Heads.{IsResponse}
 use Rattle.http_exchange.specs.Fields.{pairs_of}
 use Rattle.http_exchange.specs.Reading.{ReadsRequestHead}
@@ -19,12 +19,12 @@ use Rattle.orb_engine.specs.declared.settings.Settings.{Settings}
 use Rattle.http_exchange.specs.HeadTexts.{IsHeadText}
 
 -- a request head, and what it says of the fetch that made it
-pub record Request : Type 0 where
+pub record RequestText : Type 0 where
   pub bytes : List ℕ
   pub asks : RequestHead
 
 -- a response head, and what it says
-pub record Response : Type 0 where
+pub record ResponseText : Type 0 where
   pub bytes : List ℕ
   pub status : ℕ
   pub fields : List (List ℕ × List ℕ)
@@ -33,8 +33,8 @@ pub record Response : Type 0 where
 
 -- the heads of an exchange
 pub record Heads : Type 0 where
-  pub request : Request
-  pub response : Response
+  pub request : RequestText
+  pub response : ResponseText
 
 -- the id of a media request; one on another request has no effect
 abbrev pub id_of : RequestHead → Option ℕ
@@ -45,17 +45,17 @@ abbrev pub state_before : States → RequestHead → MediaState
 state_before table asks = if asks.media then kept_state table (id_of asks) else Na
 
 -- the bytes are a request head that says this
-pub record IsRequestHead (r : Request) : Type 0 where
+pub record IsRequestHead (r : RequestText) : Type 0 where
   pub text : IsHeadText r.bytes
   pub reads : ReadsRequestHead r.bytes (Ok r.asks)
 
 -- the same, and the id of a media request can be kept
-pub record IsRequestIn (table : States) (r : Request) : Type 0 where
+pub record IsRequestIn (table : States) (r : RequestText) : Type 0 where
   pub head : IsRequestHead r
   pub room : IsRefusedId table (id_of r.asks) → ⊥
 
--- the bytes are a response head that says this, behind a request that is HEAD or isn't
-pub record IsResponseHead (to_head : Bool) (r : Response) : Type 0 where
+-- the bytes are a response head that says this, after a request that is HEAD or isn't
+pub record IsResponseHead (to_head : Bool) (r : ResponseText) : Type 0 where
   pub text : IsHeadText r.bytes
   pub tree : ResponseHead
   pub reads : IsResponse r.bytes tree
@@ -92,5 +92,5 @@ is_to_end frame.Chunked = false
 is_to_end frame.ToEnd = true
 
 -- the response, to be filtered
-abbrev pub exchange_of : Settings → States → Heads → Exchange
-exchange_of s table h = filter.exchange_of (judged_by s table h) h.response.bytes (is_chunked h.response.frame)
+abbrev pub response_of : Settings → States → Heads → Response
+response_of s table h = filter.response_of (judged_by s table h) h.response.bytes (is_chunked h.response.frame)

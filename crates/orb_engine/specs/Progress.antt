@@ -11,16 +11,16 @@ count_with c allow =
 
 -- so many bytes more were taken
 abbrev pub advanced : Progress → ℕ → Progress
-advanced p n = record { place = p.place; taken = p.taken + n; counts = p.counts; told = p.told }
+advanced p n = record { offset = p.offset; taken = p.taken + n; counts = p.counts; told = p.told }
 
 -- the exchange at hand is whole, and the next begins
 abbrev pub closed : Progress → Bool → Progress
-closed p allow = record { place = p.taken; taken = p.taken; counts = count_with p.counts allow; told = p.told }
+closed p allow = record { offset = p.taken; taken = p.taken; counts = count_with p.counts allow; told = p.told }
 
 -- the output of all that are whole has gone out
 abbrev pub committed : Progress → Progress
-committed p = record { place = p.place; taken = p.taken; counts = p.counts; told = p.counts }
+committed p = record { offset = p.offset; taken = p.taken; counts = p.counts; told = p.counts }
 
 -- those whose output has not gone out are forgotten
 abbrev pub rolled_back : Progress → Progress
-rolled_back p = record { place = p.place; taken = p.taken; counts = p.told; told = p.told }
+rolled_back p = record { offset = p.offset; taken = p.taken; counts = p.told; told = p.told }

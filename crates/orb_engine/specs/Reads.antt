@@ -19,17 +19,17 @@ use Rattle.orb_engine.specs.declared.engine.states.State.TheVariants as state
 use Rattle.orb_engine.specs.declared.outcome.EngineOutcome.{EngineOutcome}
 use Rattle.orb_engine.specs.declared.outcome.EngineOutcome.TheVariants as outcome
 use Rattle.response_rules.specs.declared.deciding.Decider.{Decider}
-use Rattle.body_filter.specs.Exchanges.{Exchange}
+use Rattle.body_filter.specs.Responses.{Response}
 use Rattle.http_exchange.specs.declared.frames.BodyFrame.{BodyFrame}
 use Rattle.http_exchange.specs.HeadTexts.{IsHeadText}
-use Rattle.orb_engine.specs.Heads.{Request, Response, Heads, AreHeads, IsRequestIn, IsResponseHead, id_of, state_before, judged_by, exchange_of, is_to_end}
+use Rattle.orb_engine.specs.Heads.{RequestText, ResponseText, Heads, AreHeads, IsRequestIn, IsResponseHead, id_of, state_before, judged_by, response_of, is_to_end}
 use Rattle.media_state.specs.Table.{admits}
 use Rattle.orb_engine.specs.Recording as cut
-use Rattle.orb_engine.specs.Recording.{Item, Tail, Recording, IsRecording, AreItems, is_open, spell_heads, spell_items, table_behind}
+use Rattle.orb_engine.specs.Recording.{Exchange, Tail, Recording, IsRecording, AreExchanges, is_open, spell_heads, spell_exchanges, table_after_all}
 use Rattle.orb_engine.specs.Ends as ends
-use Rattle.orb_engine.specs.Ends.{End, stop_of, response_place}
-use Rattle.orb_engine.specs.Outputs.{output_of, written_items, written_front}
-use Rattle.orb_engine.specs.Counts.{rules_of_items, rules_of, count_allowed, count_blocked}
+use Rattle.orb_engine.specs.Ends.{End, stop_of, response_offset}
+use Rattle.orb_engine.specs.Outputs.{output_of, written_exchanges, written_so_far}
+use Rattle.orb_engine.specs.Counts.{rules_of_exchanges, rules_of, count_allowed, count_blocked}
 use Rattle.orb_engine.specs.Workers.{IsNewFor}
 use Rattle.orb_engine.specs.Writing.{IsWriterFor, WriterReads, gathered_by}
 
@@ -38,122 +38,122 @@ abbrev pub counts_of : List Rule → Counts
 counts_of rules = record { allowed = count_allowed rules; blocked = count_blocked rules }
 
 -- a recording after which more may come
-abbrev pub open_cut : List Item → Tail → Recording
-open_cut items tail = record { items = items; tail = tail; more = [] }
+abbrev pub open_cut : List Exchange → Tail → Recording
+open_cut exchanges tail = record { exchanges = exchanges; tail = tail; more = [] }
 
 -- the media states after these exchanges
-abbrev pub table_of : List Item → States
-table_of items = table_behind map.empty items
+abbrev pub table_of : List Exchange → States
+table_of exchanges = table_after_all map.empty exchanges
 
 -- the numbers are those of some first exchanges, whose outputs stand whole at the beginning of what was written
-pub record IsTold (counts : Counts) (s : Settings) (items : List Item) (wrote : List ℕ) : Type 0 where
-  pub front : List Item
-  pub others : List Item
-  pub are : items ≡ front ++ others
-  pub numbers : counts ≡ counts_of (rules_of_items front)
-  pub whole : IsPrefix (written_items s map.empty 0 front) wrote
+pub record IsTold (counts : Counts) (s : Settings) (exchanges : List Exchange) (wrote : List ℕ) : Type 0 where
+  pub prefix : List Exchange
+  pub others : List Exchange
+  pub are : exchanges ≡ prefix ++ others
+  pub numbers : counts ≡ counts_of (rules_of_exchanges prefix)
+  pub whole : IsPrefix (written_exchanges s map.empty 0 prefix) wrote
 
 -- what an engine knows in each stage
-pub record Common (e : Engine) (s : Settings) (items : List Item) (given : List ℕ) : Type 0 where
+pub record Common (e : Engine) (s : Settings) (exchanges : List Exchange) (given : List ℕ) : Type 0 where
   pub settings : e.writer.settings ≡ s
-  pub place : e.progress.place ≡ length (spell_items items [])
-  pub counts : e.progress.counts ≡ counts_of (rules_of_items items)
-  pub told : IsTold e.progress.told s items given
+  pub offset : e.progress.offset ≡ length (spell_exchanges exchanges [])
+  pub counts : e.progress.counts ≡ counts_of (rules_of_exchanges exchanges)
+  pub told : IsTold e.progress.told s exchanges given
 
 -- it is before a request head, or in it
-pub record Asks (e : Engine) (s : Settings) (items : List Item) (tail : Tail) : Type 0 where
+pub record AtRequestHead (e : Engine) (s : Settings) (exchanges : List Exchange) (tail : Tail) : Type 0 where
   pub head : List ℕ
-  pub is : tail ≡ cut.Asking head
+  pub is : tail ≡ cut.InRequestHead head
   pub text : e.head ≡ head
-  pub media : e.media ≡ table_of items
+  pub media : e.media ≡ table_of exchanges
   pub writer : IsWriterFor e.writer s
 
 -- it is before the response head that answers a request, or in it
-pub record Answers (asked : AskedRequest) (e : Engine) (s : Settings) (items : List Item) (tail : Tail) : Type 0 where
-  pub request : Request
+pub record AtResponseHead (asked : AskedRequest) (e : Engine) (s : Settings) (exchanges : List Exchange) (tail : Tail) : Type 0 where
+  pub request : RequestText
   pub head : List ℕ
-  pub is : tail ≡ cut.Answering request head
+  pub is : tail ≡ cut.InResponseHead request head
   pub text : e.head ≡ head
-  pub media : e.media ≡ admits (table_of items) (id_of request.asks)
+  pub media : e.media ≡ admits (table_of exchanges) (id_of request.asks)
   pub writer : IsWriterFor e.writer s
   pub asks : asked.asks ≡ request.asks
-  pub state : asked.state ≡ state_before (table_of items) request.asks
-  pub place : asked.place ≡ length (spell_items items []) + length request.bytes
+  pub state : asked.state ≡ state_before (table_of exchanges) request.asks
+  pub offset : asked.offset ≡ length (spell_exchanges exchanges []) + length request.bytes
 
 -- an exchange whose body comes: those before it, its heads, and what has come of its body, as it was sent and its
 -- content
 pub record Coming : Type 0 where
-  pub items : List Item
+  pub exchanges : List Exchange
   pub heads : Heads
   pub sent : List ℕ
   pub body : List ℕ
 
 -- its response, as the writer has it
-abbrev pub coming_response : Settings → Coming → Exchange
-coming_response s c = exchange_of s (table_of c.items) c.heads
+abbrev pub coming_response : Settings → Coming → Response
+coming_response s c = response_of s (table_of c.exchanges) c.heads
 
 -- what is written of those before it and of it
 abbrev pub coming_written : Settings → Coming → List ℕ
-coming_written s c = written_items s map.empty 0 c.items ++ written_front s.job (coming_response s c) c.body
+coming_written s c = written_exchanges s map.empty 0 c.exchanges ++ written_so_far s.job (coming_response s c) c.body
 
 -- these bytes are the exchanges before it and what has come of it
 abbrev pub spell_coming : Coming → List ℕ
-spell_coming c = spell_items c.items (spell_heads c.heads c.sent)
+spell_coming c = spell_exchanges c.exchanges (spell_heads c.heads c.sent)
 
 -- what an engine knows of its body
 pub record Receives (incoming : Incoming) (e : Engine) (s : Settings) (c : Coming) : Type 0 where
   pub unframer : UnframerHasRead incoming.unframer c.heads.response.frame c.sent c.body
   pub writer : WriterReads e.writer s (coming_response s c) c.body
-  pub media : e.media ≡ admits (table_of c.items) (id_of c.heads.request.asks)
+  pub media : e.media ≡ admits (table_of c.exchanges) (id_of c.heads.request.asks)
   pub id : incoming.id ≡ id_of c.heads.request.asks
   pub to_end : incoming.to_end ≡ is_to_end c.heads.response.frame
-  pub place : incoming.place ≡ response_place (length (spell_items c.items [])) c.heads
+  pub offset : incoming.offset ≡ response_offset (length (spell_exchanges c.exchanges [])) c.heads
 
 -- it is in a body
-pub record Sends (incoming : Incoming) (e : Engine) (s : Settings) (items : List Item) (tail : Tail) : Type 0 where
+pub record AtBody (incoming : Incoming) (e : Engine) (s : Settings) (exchanges : List Exchange) (tail : Tail) : Type 0 where
   pub heads : Heads
   pub sent : List ℕ
   pub body : List ℕ
-  pub is : tail ≡ cut.Sending heads sent body
-  pub receives : Receives incoming e s (record { items = items; heads = heads; sent = sent; body = body })
+  pub is : tail ≡ cut.InBody heads sent body
+  pub receives : Receives incoming e s (record { exchanges = exchanges; heads = heads; sent = sent; body = body })
 
-abbrev pub Stands : State → Engine → Settings → List Item → Tail → Type 0
-Stands state.Idle e s items tail = ⊥
-Stands state.RequestHead e s items tail = Asks e s items tail
-Stands (state.ResponseHead asked) e s items tail = Answers asked e s items tail
-Stands (state.Body incoming) e s items tail = Sends incoming e s items tail
+abbrev pub Stands : State → Engine → Settings → List Exchange → Tail → Type 0
+Stands state.Idle e s exchanges tail = ⊥
+Stands state.RequestHead e s exchanges tail = AtRequestHead e s exchanges tail
+Stands (state.ResponseHead asked) e s exchanges tail = AtResponseHead asked e s exchanges tail
+Stands (state.Body incoming) e s exchanges tail = AtBody incoming e s exchanges tail
 
 -- it has read these bytes, which are open, and given these; what is gathered is to be given after them
 pub record Reads (e : Engine) (s : Settings) (m given : List ℕ) : Type 0 where
-  pub items : List Item
+  pub exchanges : List Exchange
   pub tail : Tail
-  pub cut : IsRecording s m (open_cut items tail)
+  pub cut : IsRecording s m (open_cut exchanges tail)
   pub open_ : is_open tail ≡ true
-  pub gave : given ++ gathered_by e.writer ≡ output_of s (open_cut items tail) false
+  pub gave : given ++ gathered_by e.writer ≡ output_of s (open_cut exchanges tail) false
   pub taken : e.progress.taken ≡ length m
-  pub common : Common e s items given
-  pub stands : Stands e.state e s items tail
+  pub common : Common e s exchanges given
+  pub stands : Stands e.state e s exchanges tail
 
 -- it is after the heads of an exchange whose body comes; whether more of it may come isn't told yet
 pub record Fills (incoming : Incoming) (e : Engine) (s : Settings) (m given : List ℕ) : Type 0 where
   pub coming : Coming
   pub spells : m ≡ spell_coming coming
-  pub whole : AreItems s map.empty coming.items
-  pub good : AreHeads (table_of coming.items) coming.heads
+  pub whole : AreExchanges s map.empty coming.exchanges
+  pub good : AreHeads (table_of coming.exchanges) coming.heads
   pub front : IsFront coming.heads.response.frame coming.sent coming.body
   pub gave : given ++ gathered_by e.writer ≡ coming_written s coming
   pub taken : e.progress.taken ≡ length m
-  pub common : Common e s coming.items given
+  pub common : Common e s coming.exchanges given
   pub receives : Receives incoming e s coming
 
 -- the outcome is an end of a recording
 abbrev pub IsStop : EngineOutcome → End → Type 0
 IsStop outcome.Done stop = stop ≡ ends.Done
-IsStop (outcome.Bad kind place) stop = stop ≡ ends.Bad kind place
-IsStop (outcome.Cut place) stop = stop ≡ ends.Cut place
-IsStop (outcome.HeadLimit place) stop = stop ≡ ends.HeadLimit place
-IsStop (outcome.MediaFull place) stop = stop ≡ ends.MediaFull place
-IsStop (outcome.NotBuilt place) stop = stop ≡ ends.NotBuilt place
+IsStop (outcome.Bad kind offset) stop = stop ≡ ends.Bad kind offset
+IsStop (outcome.Cut offset) stop = stop ≡ ends.Cut offset
+IsStop (outcome.HeadLimit offset) stop = stop ≡ ends.HeadLimit offset
+IsStop (outcome.MediaFull offset) stop = stop ≡ ends.MediaFull offset
+IsStop (outcome.NotBuilt offset) stop = stop ≡ ends.NotBuilt offset
 IsStop outcome.Endless stop = ⊥
 IsStop outcome.ReadFault stop = ⊥
 IsStop outcome.WriteFault stop = ⊥
@@ -165,7 +165,7 @@ pub record Stops (o : EngineOutcome) (e : Engine) (s : Settings) (m : List ℕ) 
   pub stop : IsStop o (stop_of s recording ended)
   pub gave : given ++ gathered_by e.writer ≡ output_of s recording ended
   pub counts : e.progress.counts ≡ counts_of (rules_of s recording ended)
-  pub told : IsTold e.progress.told s recording.items given
+  pub told : IsTold e.progress.told s recording.exchanges given
 
 -- the sink failed: what was given is a prefix of what is written of the first bytes
 pub record Breaks (e : Engine) (s : Settings) (m : List ℕ) (ended : Bool) (given : List ℕ) : Type 0 where
@@ -176,7 +176,7 @@ pub record Breaks (e : Engine) (s : Settings) (m : List ℕ) (ended : Bool) (giv
   pub recording : Recording
   pub cut : IsRecording s seen recording
   pub within : IsPrefix given (output_of s recording ended)
-  pub told : IsTold e.progress.told s recording.items given
+  pub told : IsTold e.progress.told s recording.exchanges given
 
 -- what stops a step
 abbrev pub Halts : EngineOutcome → Engine → Settings → List ℕ → Bool → (given : List ℕ) → Type 0
@@ -204,37 +204,37 @@ Causes (Err o) before after = HaltCause o before after
 
 -- a request head comes, whose bytes so far are such a text
 pub record HasRequest (IsText : List ℕ → Type 0) (e : Engine) (s : Settings) (m given : List ℕ) : Type 0 where
-  pub items : List Item
+  pub exchanges : List Exchange
   pub head : List ℕ
-  pub spells : m ≡ spell_items items head
-  pub whole : AreItems s map.empty items
+  pub spells : m ≡ spell_exchanges exchanges head
+  pub whole : AreExchanges s map.empty exchanges
   pub text : IsText head
   pub buffer : e.head ≡ head
-  pub media : e.media ≡ table_of items
+  pub media : e.media ≡ table_of exchanges
   pub writer : IsWriterFor e.writer s
-  pub gave : given ++ gathered_by e.writer ≡ written_items s map.empty 0 items
+  pub gave : given ++ gathered_by e.writer ≡ written_exchanges s map.empty 0 exchanges
   pub taken : e.progress.taken ≡ length m
-  pub common : Common e s items given
+  pub common : Common e s exchanges given
 
 -- the same of a response head
 pub record HasResponse (IsText : List ℕ → Type 0) (asked : AskedRequest) (e : Engine) (s : Settings) (m given : List ℕ) : Type 0
   where
-    pub items : List Item
-    pub request : Request
+    pub exchanges : List Exchange
+    pub request : RequestText
     pub head : List ℕ
-    pub spells : m ≡ spell_items items (request.bytes ++ head)
-    pub whole : AreItems s map.empty items
-    pub good : IsRequestIn (table_of items) request
+    pub spells : m ≡ spell_exchanges exchanges (request.bytes ++ head)
+    pub whole : AreExchanges s map.empty exchanges
+    pub good : IsRequestIn (table_of exchanges) request
     pub text : IsText head
     pub buffer : e.head ≡ head
-    pub media : e.media ≡ admits (table_of items) (id_of request.asks)
+    pub media : e.media ≡ admits (table_of exchanges) (id_of request.asks)
     pub writer : IsWriterFor e.writer s
     pub asks : asked.asks ≡ request.asks
-    pub state : asked.state ≡ state_before (table_of items) request.asks
-    pub place : asked.place ≡ length (spell_items items []) + length request.bytes
-    pub gave : given ++ gathered_by e.writer ≡ written_items s map.empty 0 items
+    pub state : asked.state ≡ state_before (table_of exchanges) request.asks
+    pub offset : asked.offset ≡ length (spell_exchanges exchanges []) + length request.bytes
+    pub gave : given ++ gathered_by e.writer ≡ written_exchanges s map.empty 0 exchanges
     pub taken : e.progress.taken ≡ length m
-    pub common : Common e s items given
+    pub common : Common e s exchanges given
 
 -- the one or the other, by what is read next
 abbrev pub HasHead : (IsText : List ℕ → Type 0) → State → Engine → Settings → (m given : List ℕ) → Type 0
@@ -248,19 +248,19 @@ IsInHead (state.ResponseHead asked) = Unit {0}
 IsInHead t = ⊥
 
 -- where the head begins
-abbrev pub head_place_of : State → Engine → ℕ
-head_place_of (state.ResponseHead asked) e = asked.place
-head_place_of t e = e.progress.place
+abbrev pub head_offset_of : State → Engine → ℕ
+head_offset_of (state.ResponseHead asked) e = asked.offset
+head_offset_of t e = e.progress.offset
 
 -- it was read whole, and this is a decider for its response, with its frame
 pub record HasReadHeads (asked : AskedRequest) (read : Decider × BodyFrame) (e : Engine) (s : Settings) (m given : List ℕ) : Type 0
   where
     pub whole : HasResponse IsHeadText asked e s m given
-    pub response : Response
+    pub response : ResponseText
     pub bytes : response.bytes ≡ whole.head
     pub good : IsResponseHead whole.request.asks.is_head response
     pub frame_is : read.1 ≡ response.frame
-    pub new : IsNewFor read.0 s (judged_by s (table_of whole.items) (record { request = whole.request; response = response }))
+    pub new : IsNewFor read.0 s (judged_by s (table_of whole.exchanges) (record { request = whole.request; response = response }))
 
 -- what `Fills` says, where it is in a body
 abbrev pub FillsAt : State → Engine → Settings → List ℕ → List ℕ → Type 0
@@ -273,25 +273,25 @@ FillsAt (state.Body incoming) e s m given = Fills incoming e s m given
 pub record Passes (incoming : Incoming) (e : Engine) (s : Settings) (m piece given : List ℕ) : Type 0 where
   pub coming : Coming
   pub spells : m ≡ spell_coming coming
-  pub whole : AreItems s map.empty coming.items
-  pub good : AreHeads (table_of coming.items) coming.heads
+  pub whole : AreExchanges s map.empty coming.exchanges
+  pub good : AreHeads (table_of coming.exchanges) coming.heads
   pub front : IsFront coming.heads.response.frame coming.sent (coming.body ++ piece)
   pub gave : given ++ gathered_by e.writer ≡ coming_written s coming
   pub taken : e.progress.taken ≡ length m
-  pub common : Common e s coming.items given
+  pub common : Common e s coming.exchanges given
   pub unframer : UnframerHasRead incoming.unframer coming.heads.response.frame coming.sent (coming.body ++ piece)
   pub writer : WriterReads e.writer s (coming_response s coming) coming.body
-  pub media : e.media ≡ admits (table_of coming.items) (id_of coming.heads.request.asks)
+  pub media : e.media ≡ admits (table_of coming.exchanges) (id_of coming.heads.request.asks)
   pub id : incoming.id ≡ id_of coming.heads.request.asks
   pub to_end : incoming.to_end ≡ is_to_end coming.heads.response.frame
-  pub place : incoming.place ≡ response_place (length (spell_items coming.items [])) coming.heads
+  pub offset : incoming.offset ≡ response_offset (length (spell_exchanges coming.exchanges [])) coming.heads
 
 abbrev pub IsInBody : State → Type 0
 IsInBody (state.Body incoming) = Unit {0}
 IsInBody t = ⊥
 
 abbrev pub with_unframer : Incoming → Unframer → Incoming
-with_unframer i u = record { unframer = u; to_end = i.to_end; id = i.id; place = i.place }
+with_unframer i u = record { unframer = u; to_end = i.to_end; id = i.id; offset = i.offset }
 
 -- what a body's unframer took of a piece; all else of the body is as it was
 pub record Unframes (i : Incoming) (after : State) (piece : List ℕ) (t : Taken) : Type 0 where

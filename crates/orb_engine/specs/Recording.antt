@@ -1,4 +1,4 @@
--- A recording of HTTP/1.1 exchanges, one behind the other: whole exchanges, and what stands behind them, which
+-- A recording of HTTP/1.1 exchanges, one after the other: whole exchanges, and what stands after them, which
 -- may go on to be one, or is refused.
 use Rattle.std.specs.Prelude.{◌≡◌, ℕ, ◌⊎◌, Bool, true, false, List, [], ◌∷◌, ◌++◌, Some, None, Err}
 use Rattle.std.specs.FinMap as map
@@ -14,11 +14,11 @@ use Rattle.http_exchange.specs.declared.refusals.BadKind.{BadKind}
 use Rattle.http_exchange.specs.declared.frames.BodyFrame.TheVariants as frame
 use Rattle.orb_engine.specs.declared.settings.Settings.{Settings}
 use Rattle.http_exchange.specs.HeadTexts.{IsHeadText, IsOpenHead, IsLongHead}
-use Rattle.orb_engine.specs.Heads.{Request, Heads, IsRequestHead, IsRequestIn, AreHeads, id_of, state_of, judged_by}
+use Rattle.orb_engine.specs.Heads.{RequestText, Heads, IsRequestHead, IsRequestIn, AreHeads, id_of, state_of, judged_by}
 use Rattle.media_state.specs.Table.{IsRefusedId, keeps}
 
 -- a whole exchange
-pub record Item : Type 0 where
+pub record Exchange : Type 0 where
   pub heads : Heads
   -- the body, as it was sent
   pub sent : List ℕ
@@ -27,42 +27,42 @@ pub record Item : Type 0 where
   -- the rule that decides the response
   pub rule : Rule
 
--- what stands behind the whole exchanges
+-- what stands after the whole exchanges
 pub data Tail : Type 0 where
   -- the first bytes of a request head, or nothing
-  Asking : (head : List ℕ) → Tail
+  InRequestHead : (head : List ℕ) → Tail
   -- a request head, and the first bytes of a response head
-  Answering : Request → (head : List ℕ) → Tail
+  InResponseHead : RequestText → (head : List ℕ) → Tail
   -- both heads, and the first bytes of a body, as they were sent, with their content
-  Sending : Heads → (sent body : List ℕ) → Tail
+  InBody : Heads → (sent body : List ℕ) → Tail
   -- no head ends in so many bytes
   LongRequest : (head : List ℕ) → Tail
   -- a request head that is refused
   BadRequest : (head : List ℕ) → BadKind → Tail
   -- a media request whose id can't be kept
-  FullTable : Request → Tail
-  LongResponse : Request → (head : List ℕ) → Tail
-  BadResponse : Request → (head : List ℕ) → BadKind → Tail
-  -- a byte that no chunked body has behind these
+  FullTable : RequestText → Tail
+  LongResponse : RequestText → (head : List ℕ) → Tail
+  BadResponse : RequestText → (head : List ℕ) → BadKind → Tail
+  -- a byte that no chunked body has after these
   BadBody : Heads → (sent body : List ℕ) → (b : ℕ) → Tail
   -- a body that the rules built so far don't decide
   Undecided : Heads → (sent body : List ℕ) → Tail
 
--- the heads as they are sent, in front of what follows
+-- the heads as they are sent, before what follows
 abbrev pub spell_heads : Heads → List ℕ → List ℕ
 spell_heads h rest = h.request.bytes ++ (h.response.bytes ++ rest)
 
-abbrev pub spell_item : Item → List ℕ → List ℕ
-spell_item i rest = spell_heads i.heads (i.sent ++ rest)
+abbrev pub spell_exchange : Exchange → List ℕ → List ℕ
+spell_exchange i rest = spell_heads i.heads (i.sent ++ rest)
 
-abbrev pub spell_items : List Item → List ℕ → List ℕ
-spell_items [] rest = rest
-spell_items (i ∷ items) rest = spell_item i (spell_items items rest)
+abbrev pub spell_exchanges : List Exchange → List ℕ → List ℕ
+spell_exchanges [] rest = rest
+spell_exchanges (i ∷ exchanges) rest = spell_exchange i (spell_exchanges exchanges rest)
 
 abbrev pub spell_tail : Tail → List ℕ → List ℕ
-spell_tail (Asking head) rest = head ++ rest
-spell_tail (Answering r head) rest = r.bytes ++ (head ++ rest)
-spell_tail (Sending h sent body) rest = spell_heads h (sent ++ rest)
+spell_tail (InRequestHead head) rest = head ++ rest
+spell_tail (InResponseHead r head) rest = r.bytes ++ (head ++ rest)
+spell_tail (InBody h sent body) rest = spell_heads h (sent ++ rest)
 spell_tail (LongRequest head) rest = head ++ rest
 spell_tail (BadRequest head kind) rest = head ++ rest
 spell_tail (FullTable r) rest = r.bytes ++ rest
@@ -71,39 +71,39 @@ spell_tail (BadResponse r head kind) rest = r.bytes ++ (head ++ rest)
 spell_tail (BadBody h sent body b) rest = spell_heads h (sent ++ (b ∷ rest))
 spell_tail (Undecided h sent body) rest = spell_heads h (sent ++ rest)
 
--- the state of its media resource behind a whole exchange
-abbrev pub state_after_item : States → Item → MediaState
-state_after_item table i = state_behind (state_of table i.heads) i.rule
+-- the state of its media resource after a whole exchange
+abbrev pub state_after : States → Exchange → MediaState
+state_after table i = state_behind (state_of table i.heads) i.rule
 
--- the media states behind a whole exchange
-abbrev pub table_after : States → Item → States
-table_after table i = keeps table (id_of i.heads.request.asks) (state_after_item table i)
+-- the media states after a whole exchange
+abbrev pub table_after : States → Exchange → States
+table_after table i = keeps table (id_of i.heads.request.asks) (state_after table i)
 
-abbrev pub table_behind : States → List Item → States
-table_behind table [] = table
-table_behind table (i ∷ items) = table_behind (table_after table i) items
+abbrev pub table_after_all : States → List Exchange → States
+table_after_all table [] = table
+table_after_all table (i ∷ exchanges) = table_after_all (table_after table i) exchanges
 
 -- both heads are good, the body is whole, and this rule decides it
-pub record IsItem (s : Settings) (table : States) (i : Item) : Type 0 where
+pub record IsExchange (s : Settings) (table : States) (i : Exchange) : Type 0 where
   pub heads : AreHeads table i.heads
   pub front : IsFront i.heads.response.frame i.sent i.body
   pub whole : IsWhole i.heads.response.frame i.sent
   pub decided : window_rule_of (judged_by s table i.heads) i.body ≡ Some i.rule
 
-abbrev pub AreItems : Settings → States → List Item → Type 0
-AreItems s table [] = Unit {0}
-AreItems s table (i ∷ items) = IsItem s table i × AreItems s (table_after table i) items
+abbrev pub AreExchanges : Settings → States → List Exchange → Type 0
+AreExchanges s table [] = Unit {0}
+AreExchanges s table (i ∷ exchanges) = IsExchange s table i × AreExchanges s (table_after table i) exchanges
 
 -- a body that isn't whole, of which these bytes were sent, and that may still be decided
-pub record IsSending (s : Settings) (table : States) (h : Heads) (sent body : List ℕ) : Type 0 where
+pub record IsOpenBody (s : Settings) (table : States) (h : Heads) (sent body : List ℕ) : Type 0 where
   pub heads : AreHeads table h
   pub front : IsFront h.response.frame sent body
   pub unfinished : IsWhole h.response.frame sent → ⊥
   pub undecided : is_in_text (judged_by s table h) body ≡ false
 
--- the byte can't stand behind those that were sent
+-- the byte can't stand after those that were sent
 pub record IsBadBody (s : Settings) (table : States) (h : Heads) (sent body : List ℕ) (b : ℕ) : Type 0 where
-  pub sending : IsSending s table h sent body
+  pub sending : IsOpenBody s table h sent body
   pub chunked : h.response.frame ≡ frame.Chunked
   pub bad : (g : List ℕ) → IsFront h.response.frame (sent ++ (b ∷ [])) g → ⊥
 
@@ -114,11 +114,11 @@ pub record IsUndecided (s : Settings) (table : States) (h : Heads) (sent body : 
   pub undecided : (is_in_text (judged_by s table h) body ≡ true)
       ⊎ (IsWhole h.response.frame sent × (window_rule_of (judged_by s table h) body ≡ None))
 
--- what stands there is so, behind exchanges that leave these media states; of the refusals the first that holds
+-- what stands there is so, after exchanges that leave these media states; of the refusals the first that holds
 abbrev pub IsTail : Settings → States → Tail → Type 0
-IsTail s table (Asking head) = IsOpenHead head
-IsTail s table (Answering r head) = IsRequestIn table r × IsOpenHead head
-IsTail s table (Sending h sent body) = IsSending s table h sent body
+IsTail s table (InRequestHead head) = IsOpenHead head
+IsTail s table (InResponseHead r head) = IsRequestIn table r × IsOpenHead head
+IsTail s table (InBody h sent body) = IsOpenBody s table h sent body
 IsTail s table (LongRequest head) = IsLongHead head
 IsTail s table (BadRequest head kind) = IsHeadText head × ReadsRequestHead head (Err kind)
 IsTail s table (FullTable r) = IsRequestHead r × IsRefusedId table (id_of r.asks)
@@ -130,9 +130,9 @@ IsTail s table (Undecided h sent body) = IsUndecided s table h sent body
 
 -- what stands there may go on to be an exchange
 abbrev pub is_open : Tail → Bool
-is_open (Asking head) = true
-is_open (Answering r head) = true
-is_open (Sending h sent body) = true
+is_open (InRequestHead head) = true
+is_open (InResponseHead r head) = true
+is_open (InBody h sent body) = true
 is_open (LongRequest head) = false
 is_open (BadRequest head kind) = false
 is_open (FullTable r) = false
@@ -143,14 +143,14 @@ is_open (Undecided h sent body) = false
 
 -- a recording, as it is cut
 pub record Recording : Type 0 where
-  pub items : List Item
+  pub exchanges : List Exchange
   pub tail : Tail
-  -- what is not looked at, behind a refusal
+  -- what is not looked at, after a refusal
   pub more : List ℕ
 
--- the bytes are this recording: it begins with no media states, and nothing stands behind what may go on
+-- the bytes are this recording: it begins with no media states, and nothing stands after what may go on
 pub record IsRecording (s : Settings) (bytes : List ℕ) (r : Recording) : Type 0 where
-  pub spells : bytes ≡ spell_items r.items (spell_tail r.tail r.more)
-  pub items : AreItems s map.empty r.items
-  pub tail : IsTail s (table_behind map.empty r.items) r.tail
+  pub spells : bytes ≡ spell_exchanges r.exchanges (spell_tail r.tail r.more)
+  pub exchanges : AreExchanges s map.empty r.exchanges
+  pub tail : IsTail s (table_after_all map.empty r.exchanges) r.tail
   pub last : is_open r.tail ≡ true → r.more ≡ []

@@ -6,10 +6,10 @@ use Rattle.orb_engine.specs.declared.settings.Settings.{Settings}
 use Rattle.orb_engine.specs.declared.engine.Engine.{Engine}
 use Rattle.orb_engine.specs.declared.outcome.EngineOutcome.{EngineOutcome}
 use Rattle.orb_engine.specs.declared.outcome.EngineOutcome.TheVariants as outcome
-use Rattle.orb_engine.specs.Recording.{Item, Recording, IsRecording}
+use Rattle.orb_engine.specs.Recording.{Exchange, Recording, IsRecording}
 use Rattle.orb_engine.specs.Ends.{End, Open, stop_of}
-use Rattle.orb_engine.specs.Outputs.{output_of, written_items}
-use Rattle.orb_engine.specs.Counts.{rules_of, rules_of_items, count_allowed, count_blocked}
+use Rattle.orb_engine.specs.Outputs.{output_of, written_exchanges}
+use Rattle.orb_engine.specs.Counts.{rules_of, rules_of_exchanges, count_allowed, count_blocked}
 use Rattle.orb_io.specs.Outboxes.{empty_outbox}
 use Rattle.orb_engine.specs.Writing.{box_of}
 use Rattle.orb_engine.specs.Reads.{Reads, IsStop, HaltCause}
@@ -53,13 +53,13 @@ pub record HasCounted (e : Engine) (s : Settings) (r : Recording) (ended : Bool)
   pub blocked : blocked_by e ≡ count_blocked (rules_of s r ended)
 
 -- it has counted some first exchanges, whose outputs stand whole at the beginning of what was written
-pub record HasCountedFront (e : Engine) (s : Settings) (items : List Item) (wrote : List ℕ) : Type 0 where
-  pub front : List Item
-  pub others : List Item
-  pub are : items ≡ front ++ others
-  pub allowed : allowed_by e ≡ count_allowed (rules_of_items front)
-  pub blocked : blocked_by e ≡ count_blocked (rules_of_items front)
-  pub whole : IsPrefix (written_items s map.empty 0 front) wrote
+pub record HasCountedPrefix (e : Engine) (s : Settings) (exchanges : List Exchange) (wrote : List ℕ) : Type 0 where
+  pub prefix : List Exchange
+  pub others : List Exchange
+  pub are : exchanges ≡ prefix ++ others
+  pub allowed : allowed_by e ≡ count_allowed (rules_of_exchanges prefix)
+  pub blocked : blocked_by e ≡ count_blocked (rules_of_exchanges prefix)
+  pub whole : IsPrefix (written_exchanges s map.empty 0 prefix) wrote
 
 -- the bytes are a recording that ends so, and what was given is what is written of it
 pub record Ends (e : Engine) (s : Settings) (m : List ℕ) (ended : Bool) (P : End → Type 0) (given : List ℕ) : Type 0 where
@@ -79,7 +79,7 @@ pub record Fails (e : Engine) (s : Settings) (m : List ℕ) (ended : Bool) (give
   pub recording : Recording
   pub cut : IsRecording s seen recording
   pub within : IsPrefix given (output_of s recording ended)
-  pub counted : HasCountedFront e s recording.items given
+  pub counted : HasCountedPrefix e s recording.exchanges given
 
 -- the bytes end so, or the sink failed
 abbrev pub EndsAs : EngineOutcome → Engine → Settings → List ℕ → Bool → (given : List ℕ) → Type 0

@@ -3,7 +3,7 @@ use Rattle.std.specs.Prelude.{◌≡◌, ℕ, List, [], Option, Some, None}
 use Rattle.response_rules.specs.declared.deciding.Decider.{Decider}
 use Rattle.response_rules.specs.Heads.{Head}
 use Rattle.response_rules.specs.Reads.{HasRead as DeciderHasRead}
-use Rattle.body_filter.specs.Exchanges.{Exchange}
+use Rattle.body_filter.specs.Responses.{Response}
 use Rattle.body_filter.specs.Reads.{HasRead as FilterHasRead, limit_of}
 use Rattle.orb_engine.specs.declared.settings.Settings.{Settings}
 use Rattle.orb_engine.specs.declared.settings.Job.TheVariants as job
@@ -20,12 +20,12 @@ ExplainerReads None h m = ⊥
 ExplainerReads (Some d) h m = DeciderHasRead d h m
 
 -- it has read this prefix of the body of the response
-abbrev pub WorkerReads : Worker → Exchange → List ℕ → Type 0
+abbrev pub WorkerReads : Worker → Response → List ℕ → Type 0
 WorkerReads (worker.Filters f) x m = FilterHasRead f x m
 WorkerReads (worker.Explains d) x m = ExplainerReads d x.head m
 
 -- the worker of these settings has read it
-pub record Works (w : Worker) (s : Settings) (x : Exchange) (m : List ℕ) : Type 0 where
+pub record Works (w : Worker) (s : Settings) (x : Response) (m : List ℕ) : Type 0 where
   pub is_for : IsWorkerFor w s
   pub reads : WorkerReads w x m
 

@@ -2,7 +2,7 @@
 use Rattle.std.specs.Prelude.{◌≡◌, ℕ, true, List, ◌++◌, length, is_some, Result, Ok, Err}
 use Rattle.orb_io.specs.Told.{IsPrefix}
 use Rattle.response_rules.specs.Tables.{window_rule_of}
-use Rattle.body_filter.specs.Exchanges.{Exchange}
+use Rattle.body_filter.specs.Responses.{Response}
 use Rattle.orb_engine.specs.declared.settings.Settings.{Settings}
 use Rattle.orb_engine.specs.declared.writer.Writer.{Writer}
 use Rattle.orb_io.specs.Outboxes.{OutboxState}
@@ -23,26 +23,26 @@ Passes (Err fault) w owed P given = IsPrefix given owed
 -- its worker does the job of the settings, and what is gathered fits
 pub record IsWriterFor (w : Writer) (s : Settings) : Type 0 where
   pub worker : IsWorkerFor w.worker s
-  pub calm : (box_of w).faults ≡ 0
+  pub no_faults : (box_of w).faults ≡ 0
 
 -- it has read this prefix of the body of the response
-pub record WriterReads (w : Writer) (s : Settings) (x : Exchange) (m : List ℕ) : Type 0 where
+pub record WriterReads (w : Writer) (s : Settings) (x : Response) (m : List ℕ) : Type 0 where
   pub works : Works w.worker s x m
-  pub calm : (box_of w).faults ≡ 0
+  pub no_faults : (box_of w).faults ≡ 0
   pub head : w.head ≡ length x.bytes
   pub body : w.body ≡ length m
 
 -- it reads a response
 pub record CanGoOn (w : Writer) : Type 0 where
   pub s : Settings
-  pub x : Exchange
+  pub x : Response
   pub m : List ℕ
   pub reads : WriterReads w s x m
 
 -- one that a rule decides, if its body ends here
 pub record CanClose (w : Writer) : Type 0 where
   pub s : Settings
-  pub x : Exchange
+  pub x : Response
   pub m : List ℕ
   pub reads : WriterReads w s x m
   pub decided : is_some (window_rule_of x.head m) ≡ true

@@ -67,7 +67,7 @@ impl Engine {
     }
 
     /// Takes the next bytes of the recording, and pushes all output that they settle. `None` exactly where the
-    /// recording of the bytes so far is still open and the sink took all; else the outcome, behind which the engine
+    /// recording of the bytes so far is still open and the sink took all; else the outcome, after which the engine
     /// takes only a new beginning. It never answers `Done`, `Cut`, `Endless` or `ReadFault`.
     pub fn feed<O: Sink>(&mut self, piece: &[u8], output: &mut O) -> Option<EngineOutcome>
         requires can { CanFeed self.old }

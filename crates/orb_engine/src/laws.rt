@@ -5,7 +5,7 @@ ghost use Rattle.response_rules.specs.declared.rules.Rule.{Rule};
 ghost use Rattle.orb_engine.specs.declared.settings.Settings.{Settings};
 ghost use Rattle.orb_engine.specs.declared.engine.Engine.{Engine};
 ghost use Rattle.orb_engine.specs.declared.outcome.EngineOutcome.{EngineOutcome};
-ghost use Rattle.orb_engine.specs.Recording.{Item, Recording, IsRecording, is_open};
+ghost use Rattle.orb_engine.specs.Recording.{Exchange, Recording, IsRecording, is_open};
 ghost use Rattle.orb_engine.specs.Ends.{Open, stop_of};
 ghost use Rattle.orb_engine.specs.Outputs.{output_of};
 ghost use Rattle.orb_engine.specs.Counts.{rules_of};
@@ -16,8 +16,8 @@ ghost use Rattle.orb_engine.specs.Complete.{IsWholeRecording, IsAll, IsComplete}
 /// Law: bytes are one recording at most, in all that is answered of it: its whole exchanges, where it ends,
 /// what is written of it, and the rules that decide its exchanges.
 pub fn one_recording()
-    ensures items { (s : Settings) (m : List ℕ) (a b : Recording)
-        → IsRecording s m a → IsRecording s m b → a.items ≡ b.items }
+    ensures exchanges { (s : Settings) (m : List ℕ) (a b : Recording)
+        → IsRecording s m a → IsRecording s m b → a.exchanges ≡ b.exchanges }
     ensures stop { (s : Settings) (m : List ℕ) (a b : Recording)
         → IsRecording s m a → IsRecording s m b
         → (ended : Bool) → stop_of s a ended ≡ stop_of s b ended }
@@ -50,19 +50,19 @@ pub fn output_grows()
         → (ended : Bool) → IsPrefix (output_of s a false) (output_of s b ended) }
     ensures ends { (s : Settings) (a : Recording)
         → IsPrefix (output_of s a false) (output_of s a true) }
-    ensures items { (s : Settings) (m more : List ℕ) (a b : Recording)
+    ensures exchanges { (s : Settings) (m more : List ℕ) (a b : Recording)
         → IsRecording s m a → IsRecording s (m ++ more) b
-        → (others : List Item) × (b.items ≡ a.items ++ others) }
+        → (others : List Exchange) × (b.exchanges ≡ a.exchanges ++ others) }
     ensures rules { (s : Settings) (m more : List ℕ) (a b : Recording)
         → IsRecording s m a → IsRecording s (m ++ more) b
         → (ended : Bool) → (others : List Rule) × (rules_of s b ended ≡ rules_of s a false ++ others) }
 {}
 
 /// Law: where no count of faults rose, [`crate::Engine::run`] and [`crate::Engine::run_link`] answer `Done` for
-/// a recording that ends behind a whole exchange or is empty, if the source tells its bytes and one run takes so
+/// a recording that ends after a whole exchange or is empty, if the source tells its bytes and one run takes so
 /// many. All was read then, and all that is written of the recording was written.
 ///
-/// Behind it stands that first bytes of such a recording are open until they are all of it.
+/// After it stands that first bytes of such a recording are open until they are all of it.
 pub fn completeness()
     ensures fronts { (s : Settings) (read rest : List ℕ) (r first : Recording) (ended : Bool)
         → IsWholeRecording s (read ++ rest) r → IsRecording s read first

@@ -7,7 +7,7 @@ use media_state::MediaState;
 use orb_bytes::{decimal, extend};
 use response_rules::Rule;
 
-/// The number of the exchange, the verdict, the rule, the state of the media resource behind it, and how
+/// The number of the exchange, the verdict, the rule, the state of the media resource after it, and how
 /// long the body is: one line.
 #[tactic(auto, unfolding(crate::specs::Outputs::line_of))]
 pub(crate) fn line(number: u64, rule: Rule, state: MediaState, length: u64) -> ArrayVec<u8, 96>

@@ -4,7 +4,7 @@ use http_exchange::BadKind;
 /// How a run ended. A place is that of a byte of the recording, counted from 0.
 #[derive(Clone, Copy, Debug, PartialEq, Eq)]
 pub enum EngineOutcome {
-    /// The recording ended behind a whole exchange, or was empty.
+    /// The recording ended after a whole exchange, or was empty.
     Done,
     /// The recording is bad at this place.
     Bad { kind: BadKind, place: u64 },

@@ -38,7 +38,7 @@ impl Counts {
 #[derive(Clone, Copy, Debug)]
 pub(crate) struct Progress {
     // Where the exchange at hand begins, and how many bytes were taken.
-    place: u64,
+    offset: u64,
     taken: u64,
     // The exchanges that are whole, and those whose output has gone out.
     counts: Counts,
@@ -48,7 +48,7 @@ pub(crate) struct Progress {
 impl Progress {
     /// Of a recording of which nothing was read.
     pub(crate) const START: Progress = Progress {
-        place: 0,
+        offset: 0,
         taken: 0,
         counts: Counts::NONE,
         told: Counts::NONE,
@@ -68,7 +68,7 @@ impl Progress {
         ensures { self.new ≡ closed self.old allow }
     {
         self.counts = self.counts.with(allow);
-        self.place = self.taken;
+        self.offset = self.taken;
     }
 
     /// The output of all exchanges that are whole has gone out.
@@ -93,10 +93,10 @@ impl Progress {
     }
 
     /// Where the exchange at hand begins.
-    pub(crate) fn place(&self) -> u64
-        ensures { result ≡ self.now.place }
+    pub(crate) fn offset(&self) -> u64
+        ensures { result ≡ self.now.offset }
     {
-        self.place
+        self.offset
     }
 
     /// How many exchanges were allowed.

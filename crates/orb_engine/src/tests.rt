@@ -70,11 +70,11 @@ fn feed_in_pieces(
 {
     let mut rest = recording;
     'pieces: while !rest.is_empty() {
-        let (piece, behind) = rest.split_at(size.min(rest.len()));
+        let (piece, after) = rest.split_at(size.min(rest.len()));
         if let Some(outcome) = engine.feed(piece, sink) {
             return Some(outcome);
         }
-        rest = behind;
+        rest = after;
     }
     None
 }
@@ -152,7 +152,7 @@ struct Owed {
     flows: bool,
 }
 
-fn owed_behind(rows: &[Owed], read: usize) -> usize {
+fn owed_after(rows: &[Owed], read: usize) -> usize {
     let mut put = 0;
     for row in rows {
         if row.read <= read {
@@ -185,7 +185,7 @@ impl Source for WatchedLink {
 
     fn pull(&mut self, buf: &mut [u8]) -> Result<usize, Failed> {
         let put = self.link.sink().bytes().len();
-        self.exact = self.exact && buf.len() == 8192 && put == owed_behind(self.owed, self.read);
+        self.exact = self.exact && buf.len() == 8192 && put == owed_after(self.owed, self.read);
         let pulled = self.link.pull(buf);
         if let Ok(count) = pulled {
             self.read = self.read.saturating_add(count);
@@ -225,7 +225,7 @@ impl Duplex for WatchedLink {
     ghost push_leaves_faults = { λ _ _ same. ap (λ k. k.faults) same };
 }
 
-/// What an engine answers over a link whose pulls give at most so many bytes, and the link behind that.
+/// What an engine answers over a link whose pulls give at most so many bytes, and the link after that.
 fn run_watched(
     alloc: Global,
     job: Job,
@@ -258,7 +258,7 @@ fn in_chunks_of_one(alloc: Global, body: &[u8]) -> Result<Vec<u8>, Fail> {
 }
 
 /// What is owed of a long image at each pull: from the window on its bytes where it is filtered, and its line
-/// behind its last byte where it is explained.
+/// after its last byte where it is explained.
 const LONG_IMAGE: [(Job, &[Owed]); 2] = [
     (
         Job::Filter,

@@ -5,7 +5,7 @@ ghost use Rattle.orb_io.specs.Calls.{Calls};
 ghost use Rattle.response_rules.specs.Heads.{Head};
 ghost use Rattle.response_rules.specs.Tables.{window_rule_of};
 ghost use Rattle.response_rules.specs.Reads.{HasRead as DeciderHasRead, IsVerdict};
-ghost use Rattle.body_filter.specs.Exchanges.{Exchange, exchange_of};
+ghost use Rattle.body_filter.specs.Responses.{Response, response_of};
 
 use crate::lines::line;
 use crate::settings::{Job, Settings};
@@ -26,7 +26,7 @@ pub(crate) enum Worker {
 impl Worker {
     ghost use Rattle.std.specs.Prelude.{IfOk};
     ghost use Rattle.orb_engine.specs.declared.settings.Settings.{Settings};
-    ghost use Rattle.orb_engine.specs.Outputs.{written_front, written_whole};
+    ghost use Rattle.orb_engine.specs.Outputs.{written_so_far, written_whole};
     ghost use Rattle.orb_engine.specs.Workers.{IsWorkerFor, IsNewFor, Works};
 
     /// One that does the job of the settings.
@@ -56,8 +56,8 @@ impl Worker {
         requires made { (s : Settings) × (h : Head) × IsWorkerFor self.old s × IsNewFor decider s h }
         ensures delivers { (s : Settings) (h : Head) → IsWorkerFor self.old s → IsNewFor decider s h
             → Delivers result (O.told sink.old) (O.told sink.new)
-            [] (written_front s.job (exchange_of h head.now chunked) [])
-            (λ _. Works self.new s (exchange_of h head.now chunked) []) }
+            [] (written_so_far s.job (response_of h head.now chunked) [])
+            (λ _. Works self.new s (response_of h head.now chunked) []) }
         ensures calls { Calls O.Sink result sink.old sink.new }
         ensures worker { (s : Settings) → IsWorkerFor self.old s → IsWorkerFor self.new s }
     {
@@ -72,10 +72,10 @@ impl Worker {
 
     /// Reads the next piece of its body.
     pub(crate) fn feed<O: Sink>(&mut self, body: &[u8], sink: &mut O) -> Result<(), WriteFault>
-        requires { (s : Settings) × (x : Exchange) × (m : List ℕ) × Works self.old s x m }
-        ensures delivers { (s : Settings) (x : Exchange) (m : List ℕ) → Works self.old s x m
+        requires { (s : Settings) × (x : Response) × (m : List ℕ) × Works self.old s x m }
+        ensures delivers { (s : Settings) (x : Response) (m : List ℕ) → Works self.old s x m
             → Delivers result (O.told sink.old) (O.told sink.new)
-            (written_front s.job x m) (written_front s.job x (m ++ body.now))
+            (written_so_far s.job x m) (written_so_far s.job x (m ++ body.now))
             (λ _. Works self.new s x (m ++ body.now)) }
         ensures calls { Calls O.Sink result sink.old sink.new }
         ensures worker { (s : Settings) → IsWorkerFor self.old s → IsWorkerFor self.new s }
@@ -97,11 +97,11 @@ impl Worker {
         size: u64,
         sink: &mut O,
     ) -> Result<Verdict, WriteFault>
-        requires { (s : Settings) × (x : Exchange) × (m : List ℕ) × Works self.old s x m
+        requires { (s : Settings) × (x : Response) × (m : List ℕ) × Works self.old s x m
             × (is_some (window_rule_of x.head m) ≡ true) }
-        ensures delivers { (s : Settings) (x : Exchange) (m : List ℕ) → Works self.old s x m → size ≡ length m
+        ensures delivers { (s : Settings) (x : Response) (m : List ℕ) → Works self.old s x m → size ≡ length m
             → Delivers result (O.told sink.old) (O.told sink.new)
-            (written_front s.job x m) (written_whole s.job number x m) (λ v. IsVerdict x.head m v) }
+            (written_so_far s.job x m) (written_whole s.job number x m) (λ v. IsVerdict x.head m v) }
         ensures calls { Calls O.Sink result sink.old sink.new }
         ensures worker { (s : Settings) → IsWorkerFor self.old s → IsWorkerFor self.new s }
     {
@@ -121,7 +121,7 @@ impl Worker {
     /// The rule of the head or the window that decides if the body ends here; `None` exactly where none
     /// holds.
     pub(crate) fn window_rule(&self) -> Option<Rule>
-        ensures { (s : Settings) (x : Exchange) (m : List ℕ) → Works self.now s x m
+        ensures { (s : Settings) (x : Response) (m : List ℕ) → Works self.now s x m
             → result ≡ window_rule_of x.head m }
     {
         match self {

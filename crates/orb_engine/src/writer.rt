@@ -1,7 +1,7 @@
 //! The work on one response, with what it writes gathered.
 //!
 //! What a response writes goes to the outbox while all that it can write fits there, and else to the sink
-//! itself, behind what was gathered: so short exchanges go out many in one push, and a long body goes
+//! itself, after what was gathered: so short exchanges go out many in one push, and a long body goes
 //! straight through.
 ghost use Rattle.std.specs.Prelude.{◌≡◌, ◌≤◌, ◌+◌, ◌*◌, ◌^◌, ◌++◌, ℕ, List, [], length, is_some, true};
 ghost use Rattle.orb_io.specs.Told.{Gives, Delivers};
@@ -12,7 +12,7 @@ ghost use Rattle.response_rules.specs.Heads.{Head};
 ghost use Rattle.response_rules.specs.Tables.{window_rule_of};
 ghost use Rattle.response_rules.specs.Settled.{is_in_text};
 ghost use Rattle.response_rules.specs.Reads.{IsVerdict};
-ghost use Rattle.body_filter.specs.Exchanges.{Exchange, exchange_of};
+ghost use Rattle.body_filter.specs.Responses.{Response, response_of};
 
 use crate::settings::Settings;
 use crate::worker::Worker;
@@ -42,7 +42,7 @@ impl Writer {
     ghost use Rattle.std.specs.Prelude.{IfOk, OnErr};
     ghost use Rattle.orb_engine.specs.declared.settings.Settings.{Settings};
     ghost use Rattle.orb_io.specs.Outboxes.{empty_outbox};
-    ghost use Rattle.orb_engine.specs.Outputs.{written_front, written_whole};
+    ghost use Rattle.orb_engine.specs.Outputs.{written_so_far, written_whole};
     ghost use Rattle.orb_engine.specs.Workers.{IsNewFor};
     ghost use Rattle.orb_engine.specs.Writing.{IsWriterFor, WriterReads, CanGoOn, CanClose, Passes, IsSameBut, box_of, gathered_by, body_of};
 
@@ -99,8 +99,8 @@ impl Writer {
         requires made { (s : Settings) × (h : Head) × IsWriterFor self.old s × IsNewFor decider s h }
         ensures passes { (s : Settings) (h : Head) (given : List ℕ) → IsWriterFor self.old s → IsNewFor decider s h
             → Gives (O.told output.old) (O.told output.new) given (Passes result self.new
-            ((given ++ gathered_by self.old) ++ written_front s.job (exchange_of h head.now chunked) [])
-            (λ _. WriterReads self.new s (exchange_of h head.now chunked) [])) }
+            ((given ++ gathered_by self.old) ++ written_so_far s.job (response_of h head.now chunked) [])
+            (λ _. WriterReads self.new s (response_of h head.now chunked) [])) }
         ensures calls { Calls O.Sink result output.old output.new }
         ensures settings { self.new.settings ≡ self.old.settings }
     {
@@ -123,10 +123,10 @@ impl Writer {
     pub(crate) fn feed<O: Sink>(&mut self, body: &[u8], output: &mut O) -> Result<(), WriteFault>
         requires can { CanGoOn self.old }
         requires few { body_of self.old + length body.now ≤ 2 ^ 62 }
-        ensures passes { (s : Settings) (x : Exchange) (m given before : List ℕ) → WriterReads self.old s x m
-            → given ++ gathered_by self.old ≡ before ++ written_front s.job x m
+        ensures passes { (s : Settings) (x : Response) (m given before : List ℕ) → WriterReads self.old s x m
+            → given ++ gathered_by self.old ≡ before ++ written_so_far s.job x m
             → Gives (O.told output.old) (O.told output.new) given (Passes result self.new
-            (before ++ written_front s.job x (m ++ body.now)) (λ _. WriterReads self.new s x (m ++ body.now))) }
+            (before ++ written_so_far s.job x (m ++ body.now)) (λ _. WriterReads self.new s x (m ++ body.now))) }
         ensures calls { Calls O.Sink result output.old output.new }
         ensures settings { self.new.settings ≡ self.old.settings }
     {
@@ -151,8 +151,8 @@ impl Writer {
         output: &mut O,
     ) -> Result<Verdict, WriteFault>
         requires { CanClose self.old }
-        ensures passes { (s : Settings) (x : Exchange) (m given before : List ℕ) → WriterReads self.old s x m
-            → given ++ gathered_by self.old ≡ before ++ written_front s.job x m
+        ensures passes { (s : Settings) (x : Response) (m given before : List ℕ) → WriterReads self.old s x m
+            → given ++ gathered_by self.old ≡ before ++ written_so_far s.job x m
             → Gives (O.told output.old) (O.told output.new) given (Passes result self.new
             (before ++ written_whole s.job number x m) (λ v. IsVerdict x.head m v × IsWriterFor self.new s)) }
         ensures calls { Calls O.Sink result output.old output.new }
@@ -173,7 +173,7 @@ impl Writer {
 
     /// Whether its body fills the window, and no rule of the head or the window decides it.
     pub(crate) fn is_undecided(&self) -> bool
-        ensures { (s : Settings) (x : Exchange) (m : List ℕ) → WriterReads self.now s x m
+        ensures { (s : Settings) (x : Response) (m : List ℕ) → WriterReads self.now s x m
             → result ≡ is_in_text x.head m }
     {
         if self.body < WINDOW {
@@ -188,7 +188,7 @@ impl Writer {
     /// The rule of the head or the window that decides if the body ends here; `None` exactly where none
     /// holds.
     pub(crate) fn window_rule(&self) -> Option<Rule>
-        ensures { (s : Settings) (x : Exchange) (m : List ℕ) → WriterReads self.now s x m
+        ensures { (s : Settings) (x : Response) (m : List ℕ) → WriterReads self.now s x m
             → result ≡ window_rule_of x.head m }
     {
         self.worker.window_rule()

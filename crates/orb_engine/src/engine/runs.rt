@@ -104,7 +104,7 @@ fn size_of_pull(taken: u64) -> usize
     }
 }
 
-/// Pulls into the front of the room, of this size.
+/// Pulls into the first places of the room, of this size.
 fn pull_some<I: Source>(input: &mut I, room: &mut [u8], size: usize) -> Result<usize, Failed>
     requires some { 1 ≤ size }
     requires within { size ≤ length room.old }

@@ -17,7 +17,7 @@
 //!
 //! A step takes the first bytes of a piece, at least one, and goes at most one state on; `take_all` steps until
 //! the piece is taken. What stops a step is an outcome: the recording is refused at some byte, a limit is
-//! passed, or the sink failed. Behind it the engine is `Idle` until a new recording begins. Where the input ends,
+//! passed, or the sink failed. After it the engine is `Idle` until a new recording begins. Where the input ends,
 //! `finish` says so: between two exchanges, inside of one, or after a body that runs to the end of the input.
 //!
 //! Nothing else changes the state but `Engine::start`, and the end of `feed` and `end`, which make it `Idle`.
@@ -52,7 +52,7 @@ pub(crate) struct Asked {
     /// The state of its media resource.
     pub(crate) state: MediaState,
     // Where the response begins.
-    place: u64,
+    offset: u64,
 }
 
 /// A response whose body comes.
@@ -65,7 +65,7 @@ pub(crate) struct Incoming {
     // The id of the media resource.
     id: Option<u64>,
     // Where the response begins.
-    place: u64,
+    offset: u64,
 }
 
 impl State {
@@ -90,7 +90,7 @@ impl Engine {
     ghost use Rattle.orb_io.specs.Told.{Gives};
     ghost use Rattle.http_exchange.specs.HeadTexts.{IsHeadText};
     ghost use Rattle.orb_engine.specs.declared.settings.Settings.{Settings};
-    ghost use Rattle.orb_engine.specs.Reads.{Reads, Halts, HaltCause, Steps, Settles, Causes, HasRequest, HasResponse, HasHead, HasReadHeads, FillsAt, Coming, IsInHead, IsInBody, head_place_of};
+    ghost use Rattle.orb_engine.specs.Reads.{Reads, Halts, HaltCause, Steps, Settles, Causes, HasRequest, HasResponse, HasHead, HasReadHeads, FillsAt, Coming, IsInHead, IsInBody, head_offset_of};
     ghost use Rattle.orb_engine.specs.Closing.{IsClosing, Closes, ClosesDecided, coming_rule};
     ghost use Rattle.orb_engine.specs.Runs.{settings_of};
 
@@ -157,7 +157,7 @@ impl Engine {
                 Ok(piece.len())
             }
             HeadTaken::Long => Err(EngineOutcome::HeadLimit {
-                place: self.head_place(),
+                place: self.head_offset(),
             }),
             HeadTaken::Whole { used } => {
                 self.progress.advance(used);
@@ -170,12 +170,12 @@ impl Engine {
     }
 
     /// Where the head that comes begins.
-    fn head_place(&self) -> u64
-        ensures { result ≡ head_place_of self.now.state self.now }
+    fn head_offset(&self) -> u64
+        ensures { result ≡ head_offset_of self.now.state self.now }
     {
         match &self.state {
-            State::ResponseHead(asked) => asked.place,
-            _ => self.progress.place(),
+            State::ResponseHead(asked) => asked.offset,
+            _ => self.progress.offset(),
         }
     }
 
@@ -207,7 +207,7 @@ impl Engine {
             × HasRequest IsHeadText self.old s m given }
         ensures settles { (s : Settings) (m given : List ℕ) → HasRequest IsHeadText self.old s m given
             → Settles result self.new s m given }
-        ensures calm { (n : ℕ) → Causes result n n }
+        ensures no_faults { (n : ℕ) → Causes result n n }
         ensures taken { self.new.progress.taken ≡ self.old.progress.taken }
         ensures settings { self.new.writer.settings ≡ self.old.writer.settings }
     {
@@ -216,7 +216,7 @@ impl Engine {
             Err(kind) => {
                 return Err(EngineOutcome::Bad {
                     kind,
-                    place: self.progress.place(),
+                    place: self.progress.offset(),
                 });
             }
         };
@@ -226,12 +226,12 @@ impl Engine {
                 self.state = State::ResponseHead(Asked {
                     asks,
                     state,
-                    place: self.progress.taken(),
+                    offset: self.progress.taken(),
                 });
                 Ok(())
             }
             Err(_) => Err(EngineOutcome::MediaFull {
-                place: self.progress.place(),
+                place: self.progress.offset(),
             }),
         }
     }
@@ -252,7 +252,7 @@ impl Engine {
             Ok((decider, frame)) => self.begin_body(asked, decider, frame, output),
             Err(kind) => Err(EngineOutcome::Bad {
                 kind,
-                place: asked.place,
+                place: asked.offset,
             }),
         }
     }
@@ -285,7 +285,7 @@ impl Engine {
                     unframer: Unframer::new(frame),
                     to_end: is_to_end(frame),
                     id: id_of(&asked.asks),
-                    place: asked.place,
+                    offset: asked.offset,
                 });
                 self.settle_body(output)
             }
@@ -339,28 +339,28 @@ impl Engine {
         let State::Body(incoming) = &self.state else {
             unreachable!()
         };
-        let place = incoming.place;
+        let offset = incoming.offset;
         if self.writer.is_undecided() {
-            return Err(EngineOutcome::NotBuilt { place });
+            return Err(EngineOutcome::NotBuilt { place: offset });
         }
         if !incoming.unframer.is_whole() {
             return Ok(());
         }
         let id = incoming.id;
-        self.close(id, place, output)
+        self.close(id, offset, output)
     }
 
     /// Ends the exchange whose body has come whole: the id of its media resource, and where its response begins.
     fn close<O: Sink>(
         &mut self,
         id: Option<u64>,
-        place: u64,
+        offset: u64,
         output: &mut O,
     ) -> Result<(), EngineOutcome>
         requires can { (s : Settings) × (c : Coming) × (given : List ℕ) × IsClosing self.old s c id given }
         requires few { self.old.progress.counts.allowed + self.old.progress.counts.blocked < 2 ^ 62 }
         ensures closes { (s : Settings) (c : Coming) (given : List ℕ) → IsClosing self.old s c id given
-            → Gives (O.told output.old) (O.told output.new) given (Closes result place self.new s c) }
+            → Gives (O.told output.old) (O.told output.new) given (Closes result offset self.new s c) }
         ensures causes { Causes result (O.faults output.old) (O.faults output.new) }
         ensures keeps { O.kept output.old output.new }
         ensures taken { self.new.progress.taken ≡ self.old.progress.taken }
@@ -368,7 +368,7 @@ impl Engine {
     {
         match self.writer.window_rule() {
             Some(_) => self.close_decided(id, output),
-            None => Err(EngineOutcome::NotBuilt { place }),
+            None => Err(EngineOutcome::NotBuilt { place: offset }),
         }
     }
 
@@ -413,7 +413,7 @@ impl Engine {
         ensures settings { settings_of self.new ≡ settings_of self.old }
     {
         let cut = EngineOutcome::Cut {
-            place: self.progress.place(),
+            place: self.progress.offset(),
         };
         match &self.state {
             State::RequestHead => {
@@ -428,8 +428,8 @@ impl Engine {
                 if !incoming.to_end {
                     return cut;
                 }
-                let (id, place) = (incoming.id, incoming.place);
-                match self.close(id, place, output) {
+                let (id, offset) = (incoming.id, incoming.offset);
+                match self.close(id, offset, output) {
                     Ok(()) => EngineOutcome::Done,
                     Err(stop) => stop,
                 }

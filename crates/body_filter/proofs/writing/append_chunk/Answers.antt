@@ -1,7 +1,7 @@
-use Rattle.body_filter.proofs.ChunkLemmas.{chunk-behind}
+use Rattle.body_filter.proofs.ChunkLemmas.{chunk-after}
 use Rattle.body_filter.proofs.writing.append_chunk.Goals as goal
 
 pub returns : goal.returns
 returns c =
     rw (c.extend-4.ensures, c.extend-3.ensures, c.extend-2.ensures, c.extend.ensures)
-    (chunk-behind c.args.text.now.items c.args.front.now c.args.back.now c.requires.full)
+    (chunk-after c.args.text.now.items c.args.front.now c.args.back.now c.requires.full)

@@ -2,21 +2,21 @@ use Rattle.std.proofs.Common.{◌≡◌, ◌++◌, [], true, refl, sym, ap, ◌�
 use Rattle.std.proofs.lemmas.Result.{on_ok_weaker}
 use Rattle.orb_io.proofs.GivesLemmas.{Gives-none, Delivers-put}
 use Rattle.response_rules.specs.Settled.{is_sent}
-use Rattle.body_filter.specs.Exchanges.{exchange_of, front_of}
+use Rattle.body_filter.specs.Responses.{response_of, output_so_far}
 use Rattle.body_filter.proofs.WriteLemmas.{kept-none}
-use Rattle.body_filter.proofs.FilterLemmas.{front-unsent}
+use Rattle.body_filter.proofs.FilterLemmas.{so_far-unsent}
 use Rattle.body_filter.proofs.OwedLemmas.{first-sent}
-use Rattle.body_filter.proofs.PhaseLemmas.{reads-holding, reads-sending, reads-dropping, made-limit, judged-allowed, judged-blocked, judged-open, given_up-first}
+use Rattle.body_filter.proofs.PhaseLemmas.{reads-holding, reads-passing, reads-dropping, made-limit, judged-allowed, judged-blocked, judged-open, given_up-first}
 use Rattle.body_filter.proofs.filtering.Filter.begin.Goals as goal
 
 pub returns-in-Allowed-clause-delivers : goal.returns-in-Allowed-clause-delivers
 returns-in-Allowed-clause-delivers g c = λ h r.
-    let x = exchange_of h c.args.head.now c.args.chunked in
+    let x = response_of h c.args.head.now c.args.chunked in
     let sent : is_sent h [] ≡ true = judged-allowed _ _ (c.in-Allowed.ensures h [] r) in
-    Delivers-put _ _ c.idle_at_fault.result [] c.args.head.now (front_of x []) _
+    Delivers-put _ _ c.idle_at_fault.result [] c.args.head.now (output_so_far x []) _
     (rw c.idle_at_fault.ensures.same c.put_bytes.ensures.puts.bytes) (first-sent x sent)
     (on_ok_weaker c.idle_at_fault.result
-    (λ is. reads-sending _ x [] (made-limit c.args.decider _ h c.requires.made r) r is
+    (λ is. reads-passing _ x [] (made-limit c.args.decider _ h c.requires.made r) r is
     (record {
       sent = sent;
       chunked = c.start.ensures.chunked;
@@ -26,20 +26,20 @@ returns-in-Allowed-clause-delivers g c = λ h r.
 
 pub returns-in-Blocked-clause-delivers : goal.returns-in-Blocked-clause-delivers
 returns-in-Blocked-clause-delivers g c = λ h r.
-    let x = exchange_of h c.args.head.now c.args.chunked in
+    let x = response_of h c.args.head.now c.args.chunked in
     let judged = judged-blocked _ _ (c.in-Blocked.ensures h [] r) in
     Gives-none _ [] _ (g.met.O.Sink.told_agrees c.args.sink.now) (
-      sym (front-unsent x [] judged.0),
+      sym (so_far-unsent x [] judged.0),
       (reads-dropping _ x [] (made-limit c.args.decider _ h c.requires.made r) r refl
           (record { over = given_up-first h ∙ judged.1 })),
     )
 
 pub returns-in-Open-clause-delivers : goal.returns-in-Open-clause-delivers
 returns-in-Open-clause-delivers g c = λ h r.
-    let x = exchange_of h c.args.head.now c.args.chunked in
+    let x = response_of h c.args.head.now c.args.chunked in
     let judged = judged-open _ _ (c.in-Open.ensures h [] r) in
     Gives-none _ [] _ (g.met.O.Sink.told_agrees c.args.sink.now) (
-      sym (front-unsent x [] judged.0),
+      sym (so_far-unsent x [] judged.0),
       (reads-holding _ x [] (made-limit c.args.decider _ h c.requires.made r) r refl
           (record {
             unsent = judged.0;

@@ -1,7 +1,7 @@
 use Rattle.std.proofs.Common.{refl}
 use Rattle.std.proofs.lemmas.Result.{err_from_is_err_and}
 use Rattle.orb_io.proofs.GivesLemmas.{Gives-of, Delivers-fault}
-use Rattle.body_filter.specs.Exchanges.{front_of, whole_of}
+use Rattle.body_filter.specs.Responses.{output_so_far, whole_output}
 use Rattle.body_filter.specs.Reads.{held_in}
 use Rattle.body_filter.proofs.OwedLemmas.{ended-is}
 use Rattle.body_filter.proofs.filtering.Filter.end.Goals as goal
@@ -9,14 +9,14 @@ use Rattle.body_filter.proofs.filtering.Filter.end.Goals as goal
 pub returns-in_err-put-clause-delivers : goal.returns-in_err-put-clause-delivers
 returns-in_err-put-clause-delivers g c = λ x m r.
     let err = err_from_is_err_and c.from_residual.result c.from_residual.ensures.1 in
-    rw err.1 (Delivers-fault _ _ (front_of x m) _ (whole_of x m) c.in_err-put.ensures.puts.bytes
+    rw err.1 (Delivers-fault _ _ (output_so_far x m) _ (whole_output x m) c.in_err-put.ensures.puts.bytes
     (ended-is c.args.self.now.phase c.args.self.now _ x m c.finish-verdict.result r.stands
     (c.finish-verdict.ensures x.head m r.decides) refl refl refl))
 
 pub returns-clause-delivers : goal.returns-clause-delivers
 returns-clause-delivers g c = λ x m r.
     let verdict = c.finish-verdict.ensures x.head m r.decides in
-    Gives-of _ _ (front_of x m) _ _ c.in_ok-put.ensures.puts.bytes (
+    Gives-of _ _ (output_so_far x m) _ _ c.in_ok-put.ensures.puts.bytes (
       ended-is c.args.self.now.phase c.args.self.now _ x m c.finish-verdict.result r.stands verdict refl refl refl,
       verdict,
     )

@@ -1,10 +1,10 @@
 use Rattle.std.proofs.Common.{◌≡◌, ◌++◌, length, true, refl, sym, ap, ◌∙◌, arith}
 use Rattle.orb_io.proofs.GivesLemmas.{Gives-none, Delivers-put}
 use Rattle.response_rules.specs.Settled.{is_sent}
-use Rattle.body_filter.specs.Exchanges.{front_of}
-use Rattle.body_filter.proofs.FilterLemmas.{front-unsent, given_up-fits}
+use Rattle.body_filter.specs.Responses.{output_so_far}
+use Rattle.body_filter.proofs.FilterLemmas.{so_far-unsent, given_up-fits}
 use Rattle.body_filter.proofs.OwedLemmas.{release-is, release-kept}
-use Rattle.body_filter.proofs.PhaseLemmas.{reads-holding, reads-sending, reads-dropping, holds-of, judged-allowed, judged-blocked, judged-open, on_ok-both}
+use Rattle.body_filter.proofs.PhaseLemmas.{reads-holding, reads-passing, reads-dropping, holds-of, judged-allowed, judged-blocked, judged-open, on_ok-both}
 use Rattle.body_filter.proofs.filtering.Filter.feed_held.Goals as goal
 
 pub returns-in-Allowed-clause-delivers : goal.returns-in-Allowed-clause-delivers
@@ -17,13 +17,13 @@ returns-in-Allowed-clause-delivers g c = λ x m r.
     let w = f.writer in
     let head = c.deref.result.now in
     let held = c.deref-in-Allowed.result.now in
-    Delivers-put _ _ c.idle_at_fault.result (front_of x m) _ (front_of x (m ++ p)) _
+    Delivers-put _ _ c.idle_at_fault.result (output_so_far x m) _ (output_so_far x (m ++ p)) _
     (rw c.idle_at_fault.ensures.same c.release-put.ensures.puts.bytes)
     (release-is x m p w.chunked w.rest.items head held s.chunked s.rest (c.deref.ensures.value ∙ s.head)
     (c.deref-in-Allowed.ensures.value ∙ s.held) s.unsent sent)
     (on_ok-both c.idle_at_fault.result c.idle_at_fault.ensures.ok (rw c.idle_at_fault.ensures.same c.release-put.ensures.rest)
     (λ same rest.
-    reads-sending _ x (m ++ p) r.limit (c.read_on.ensures.reads x.head m r.decides) same
+    reads-passing _ x (m ++ p) r.limit (c.read_on.ensures.reads x.head m r.decides) same
     (record {
       sent = sent;
       chunked = c.release-put.ensures.chunked ∙ s.chunked;
@@ -36,8 +36,8 @@ returns-in-Blocked-clause-delivers g c = λ x m r.
     let p = c.args.piece.now in
     let s = holds-of f x m c.requires.holding r in
     let judged = judged-blocked _ _ (c.in-Blocked.ensures _ _ (c.read_on.ensures.gives x.head m r.decides)) in
-    Gives-none _ (front_of x m) _ (g.met.O.Sink.told_agrees c.args.sink.now) (
-      front-unsent x m s.unsent ∙ sym (front-unsent x (m ++ p) judged.0),
+    Gives-none _ (output_so_far x m) _ (g.met.O.Sink.told_agrees c.args.sink.now) (
+      so_far-unsent x m s.unsent ∙ sym (so_far-unsent x (m ++ p) judged.0),
       (reads-dropping _ x (m ++ p) r.limit (c.read_on.ensures.reads x.head m r.decides) refl
           (record { over = given_up-fits x.head m p f.limit c.len.result _ r.limit (c.len.ensures ∙ (f.held.ok.0 ∙ ap length s.held)) (omega arith) (omega arith) judged.0 judged.1 })),
     )
@@ -48,8 +48,8 @@ returns-in-Open-clause-delivers g c = λ x m r.
     let p = c.args.piece.now in
     let s = holds-of f x m c.requires.holding r in
     let judged = judged-open _ _ (c.in-Open.ensures _ _ (c.read_on.ensures.gives x.head m r.decides)) in
-    Gives-none _ (front_of x m) _ (g.met.O.Sink.told_agrees c.args.sink.now) (
-      front-unsent x m s.unsent ∙ sym (front-unsent x (m ++ p) judged.0),
+    Gives-none _ (output_so_far x m) _ (g.met.O.Sink.told_agrees c.args.sink.now) (
+      so_far-unsent x m s.unsent ∙ sym (so_far-unsent x (m ++ p) judged.0),
       (reads-holding _ x (m ++ p) r.limit (c.read_on.ensures.reads x.head m r.decides) c.requires.holding
           (record {
             unsent = judged.0;

@@ -2,23 +2,23 @@ use Rattle.std.proofs.Common.{◌≡◌, ◌++◌, true, ◌∙◌}
 use Rattle.orb_io.proofs.GivesLemmas.{Delivers-put}
 use Rattle.response_rules.specs.Settled.{is_sent}
 use Rattle.response_rules.proofs.SettledLemmas.{sent-longer}
-use Rattle.body_filter.specs.Exchanges.{front_of}
+use Rattle.body_filter.specs.Responses.{output_so_far}
 use Rattle.body_filter.proofs.OwedLemmas.{sending-is, sending-kept}
-use Rattle.body_filter.proofs.PhaseLemmas.{reads-sending, sends-of, on_ok-both}
+use Rattle.body_filter.proofs.PhaseLemmas.{reads-passing, passes-of, on_ok-both}
 use Rattle.body_filter.proofs.filtering.Filter.feed_sent.Goals as goal
 
 pub returns-clause-delivers : goal.returns-clause-delivers
 returns-clause-delivers g c = λ x m r.
     let f = c.args.self.now in
     let p = c.args.piece.now in
-    let s = sends-of f x m c.requires.sending r in
+    let s = passes-of f x m c.requires.sending r in
     let sent : is_sent x.head (m ++ p) ≡ true = sent-longer x.head m p s.sent in
-    Delivers-put _ _ c.idle_at_fault.result (front_of x m) _ (front_of x (m ++ p)) _
+    Delivers-put _ _ c.idle_at_fault.result (output_so_far x m) _ (output_so_far x (m ++ p)) _
     (rw c.idle_at_fault.ensures.same c.put-put.ensures.puts.bytes)
     (sending-is x m p f.writer.chunked f.writer.rest.items s.chunked s.rest s.sent sent)
     (on_ok-both c.idle_at_fault.result c.idle_at_fault.ensures.ok (rw c.idle_at_fault.ensures.same c.put-put.ensures.rest)
     (λ same rest.
-    reads-sending _ x (m ++ p) r.limit (c.read_on-judgement.ensures.reads x.head m r.decides)
+    reads-passing _ x (m ++ p) r.limit (c.read_on-judgement.ensures.reads x.head m r.decides)
     (same ∙ c.requires.sending)
     (record {
       sent = sent;

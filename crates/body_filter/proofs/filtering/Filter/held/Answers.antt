@@ -1,8 +1,8 @@
 use Rattle.std.proofs.Common.{inl, inr, length, refl, sym, ap, ◌∙◌}
 use Rattle.body_filter.specs.Reads.{held_in}
 use Rattle.body_filter.proofs.WriteLemmas.{kept-length}
-use Rattle.body_filter.proofs.FilterLemmas.{held-holding, held-sending, held-dropping}
-use Rattle.body_filter.proofs.PhaseLemmas.{holds-of, sends-of, drops-of, idle-spent}
+use Rattle.body_filter.proofs.FilterLemmas.{held-holding, held-passing, held-dropping}
+use Rattle.body_filter.proofs.PhaseLemmas.{holds-of, passes-of, drops-of, idle-spent}
 use Rattle.body_filter.proofs.filtering.Filter.held.Goals as goal
 
 pub returns-in-Holding-clause-value : goal.returns-in-Holding-clause-value
@@ -14,14 +14,14 @@ returns-in-Holding-clause-exact c = λ x m r.
     let s = holds-of c.args.self.now x m c.in-Holding.is r in
     c.len.ensures ∙ (c.args.self.now.held.ok.0 ∙ (ap length s.held ∙ sym (held-holding x m s.unsent s.hopeful)))
 
-pub returns-in-Sending-clause-value : goal.returns-in-Sending-clause-value
+pub returns-in-Passing-clause-value : goal.returns-in-Passing-clause-value
 unfolding held_in
-returns-in-Sending-clause-value c = rw c.in-Sending.is c.kept.ensures.value
+returns-in-Passing-clause-value c = rw c.in-Passing.is c.kept.ensures.value
 
-pub returns-in-Sending-clause-exact : goal.returns-in-Sending-clause-exact
-returns-in-Sending-clause-exact c = λ x m r.
-    let s = sends-of c.args.self.now x m c.in-Sending.is r in
-    c.kept.ensures.value ∙ (ap length s.rest ∙ (kept-length x.chunked m ∙ sym (held-sending x m s.sent)))
+pub returns-in-Passing-clause-exact : goal.returns-in-Passing-clause-exact
+returns-in-Passing-clause-exact c = λ x m r.
+    let s = passes-of c.args.self.now x m c.in-Passing.is r in
+    c.kept.ensures.value ∙ (ap length s.rest ∙ (kept-length x.chunked m ∙ sym (held-passing x m s.sent)))
 
 pub returns-in-Dropping-clause-value : goal.returns-in-Dropping-clause-value
 unfolding held_in

@@ -14,12 +14,12 @@ settle_body-requires-clause-can g c =
     let h = (begun c.args.asked read c.args.self.now s m given q).heads in
     let x = same-exchange c.args.asked read c.args.self.now s m given q c.as_slice.result.now c.is_chunked-chunked.result
     c.as_slice.ensures.value c.is_chunked-chunked.ensures in
-    let passed = c.in-Ok.ensures.passes s (judged_by s (table_of q.whole.items) h) given q.whole.writer q.new in (
+    let passed = c.in-Ok.ensures.passes s (judged_by s (table_of q.whole.exchanges) h) given q.whole.writer q.new in (
       s,
       m,
       given ++ passed.more,
       begun-fills _ c.args.asked read c.args.self.now _ s m given passed.more q _
-          (record { media = refl; place = refl; taken = refl; counts = refl; told = refl; settings = c.in-Ok.ensures.settings })
+          (record { media = refl; offset = refl; taken = refl; counts = refl; told = refl; settings = c.in-Ok.ensures.settings })
           x passed.holds.0 passed.holds.1 c.new.ensures c.is_to_end.ensures c.id_of.ensures refl,
     )
 
@@ -29,10 +29,10 @@ returns-in-Ok-clause-settles g c = λ s m given q.
     let h = (begun c.args.asked read c.args.self.now s m given q).heads in
     let x = same-exchange c.args.asked read c.args.self.now s m given q c.as_slice.result.now c.is_chunked-chunked.result
     c.as_slice.ensures.value c.is_chunked-chunked.ensures in
-    Gives-then _ _ _ given _ _ (c.in-Ok.ensures.passes s (judged_by s (table_of q.whole.items) h) given q.whole.writer q.new)
+    Gives-then _ _ _ given _ _ (c.in-Ok.ensures.passes s (judged_by s (table_of q.whole.exchanges) h) given q.whole.writer q.new)
     (λ more passed. c.settle_body.ensures.settles s m (given ++ more)
     (begun-fills _ c.args.asked read c.args.self.now _ s m given more q _
-    (record { media = refl; place = refl; taken = refl; counts = refl; told = refl; settings = c.in-Ok.ensures.settings })
+    (record { media = refl; offset = refl; taken = refl; counts = refl; told = refl; settings = c.in-Ok.ensures.settings })
     x passed.0 passed.1 c.new.ensures c.is_to_end.ensures c.id_of.ensures refl))
 
 pub returns-in-Err-clause-settles : goal.returns-in-Err-clause-settles
@@ -43,6 +43,6 @@ returns-in-Err-clause-settles g c = λ s m given q.
     c.as_slice.ensures.value c.is_chunked-chunked.ensures in
     Gives-weaker _ _ given _ _ (λ more within.
     begun-breaks c.args.asked read c.args.self.now _ s m given more q _
-    (record { media = refl; place = refl; taken = refl; counts = refl; told = refl; settings = c.in-Err.ensures.settings })
+    (record { media = refl; offset = refl; taken = refl; counts = refl; told = refl; settings = c.in-Err.ensures.settings })
     x within)
-    (c.in-Err.ensures.passes s (judged_by s (table_of q.whole.items) h) given q.whole.writer q.new)
+    (c.in-Err.ensures.passes s (judged_by s (table_of q.whole.exchanges) h) given q.whole.writer q.new)

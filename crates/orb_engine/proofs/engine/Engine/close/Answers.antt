@@ -10,7 +10,7 @@ close_decided-requires-clause-can g c =
 
 pub returns-in-Some-clause-closes : goal.returns-in-Some-clause-closes
 returns-in-Some-clause-closes g c = λ s x given k.
-    Gives-weaker _ _ given _ _ (λ more closes. as_closes c.close_decided.result c.args.place c.close_decided.new.self s x (given ++ more) closes)
+    Gives-weaker _ _ given _ _ (λ more closes. as_closes c.close_decided.result c.args.offset c.close_decided.new.self s x (given ++ more) closes)
     (c.close_decided.ensures.closes s x given k (some-of _ _ (sym (c.window_rule.ensures s _ x.body k.writer) ∙ c.in-Some.is)))
 
 pub returns-in-None-clause-closes : goal.returns-in-None-clause-closes

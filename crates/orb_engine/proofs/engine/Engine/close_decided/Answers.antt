@@ -3,8 +3,8 @@ use Rattle.std.specs.FinMap as map
 use Rattle.orb_io.specs.Told.{IsPrefix}
 use Rattle.orb_io.proofs.GivesLemmas.{Gives-weaker}
 use Rattle.orb_engine.specs.Heads.{id_of}
-use Rattle.orb_engine.specs.Outputs.{written_items, written_whole}
-use Rattle.orb_engine.specs.Counts.{rules_of_items}
+use Rattle.orb_engine.specs.Outputs.{written_exchanges, written_whole}
+use Rattle.orb_engine.specs.Counts.{rules_of_exchanges}
 use Rattle.orb_engine.specs.Reads.{table_of, counts_of, coming_response}
 use Rattle.orb_engine.specs.declared.progress.Progress.{Progress}
 use Rattle.orb_engine.specs.Progress.{count_with}
@@ -15,12 +15,12 @@ use Rattle.orb_engine.proofs.engine.Engine.close_decided.Goals as goal
 pub leave-requires : goal.leave-requires
 leave-requires g c =
     let (s, x, given, k, decided) = c.requires.can in
-    rw (k.media, k.id_is) (kept-admitted (table_of x.items) (id_of x.heads.request.asks))
+    rw (k.media, k.id_is) (kept-admitted (table_of x.exchanges) (id_of x.heads.request.asks))
 
 pub returns-in-Ok-clause-closes : goal.returns-in-Ok-clause-closes
 returns-in-Ok-clause-closes g c = λ s x given k decided.
-    let all = written_items s map.empty 0 x.items in
-    let number = c.number-number.ensures ∙ number-is c.args.self.now.progress.counts x.items k.common.counts in
+    let all = written_exchanges s map.empty 0 x.exchanges in
+    let number = c.number-number.ensures ∙ number-is c.args.self.now.progress.counts x.exchanges k.common.counts in
     Gives-weaker _ _ given _ _ (λ more passed.
     let verdict = passed.1.0 in
     record {
@@ -29,24 +29,24 @@ returns-in-Ok-clause-closes g c = λ s x given k decided.
       gave = passed.0 ∙ ap (λ n. all ++ written_whole s.job n (coming_response s x) x.body) number;
       settings = c.in-Ok.ensures.settings ∙ k.common.settings;
       counts = ap (λ (p : Progress). p.counts) c.close.ensures ∙ ap (λ d. count_with d c.in-Ok.verdict.allow) k.common.counts
-          ∙ ap (count_with (counts_of (rules_of_items x.items))) verdict.allow
-          ∙ sym (counts-snoc (rules_of_items x.items) c.in-Ok.verdict.rule);
-      told = rw (ap (λ (p : Progress). p.told) c.close.ensures) (told-more c.args.self.now.progress.told s x.items given more k.common.told);
+          ∙ ap (count_with (counts_of (rules_of_exchanges x.exchanges))) verdict.allow
+          ∙ sym (counts-snoc (rules_of_exchanges x.exchanges) c.in-Ok.verdict.rule);
+      told = rw (ap (λ (p : Progress). p.told) c.close.ensures) (told-more c.args.self.now.progress.told s x.exchanges given more k.common.told);
       asking = refl;
       head = c.clear.ensures;
-      media = c.leave.ensures ∙ rw (k.media, k.id_is, verdict.state) (stored-keeps (table_of x.items) (id_of x.heads.request.asks) _);
+      media = c.leave.ensures ∙ rw (k.media, k.id_is, verdict.state) (stored-keeps (table_of x.exchanges) (id_of x.heads.request.asks) _);
       writer = passed.1.1;
-      place = ap (λ (p : Progress). p.place) c.close.ensures ∙ sym (ap (λ (p : Progress). p.taken) c.close.ensures);
+      offset = ap (λ (p : Progress). p.offset) c.close.ensures ∙ sym (ap (λ (p : Progress). p.taken) c.close.ensures);
     }) (c.in-Ok.ensures.passes s _ x.body given all k.writer k.gave)
 
 pub returns-in-Err-clause-closes : goal.returns-in-Err-clause-closes
 returns-in-Err-clause-closes g c = λ s x given k decided.
-    let all = written_items s map.empty 0 x.items in
-    let number = c.number-number.ensures ∙ number-is c.args.self.now.progress.counts x.items k.common.counts in
+    let all = written_exchanges s map.empty 0 x.exchanges in
+    let number = c.number-number.ensures ∙ number-is c.args.self.now.progress.counts x.exchanges k.common.counts in
     let (rule, rule_is) = the-rule _ decided in
     Gives-weaker _ _ given _ _ (λ more within. record {
       rule = rule;
       decided = rule_is;
       within = subst (λ (n : ℕ). IsPrefix (given ++ more) (all ++ written_whole s.job n (coming_response s x) x.body)) number within;
-      told = told-more c.args.self.now.progress.told s x.items given more k.common.told;
+      told = told-more c.args.self.now.progress.told s x.exchanges given more k.common.told;
     }) (c.in-Err.ensures.passes s _ x.body given all k.writer k.gave)

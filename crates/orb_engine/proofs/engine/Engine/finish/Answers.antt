@@ -4,14 +4,14 @@ use Rattle.std.proofs.lemmas.List.{nil_from_length}
 use Rattle.orb_io.proofs.GivesLemmas.{Gives-none, Gives-weaker}
 use Rattle.orb_engine.proofs.HeadStepLemmas.{open-request, open-response}
 use Rattle.orb_engine.proofs.BodyStepLemmas.{open-body}
-use Rattle.orb_engine.proofs.FinishLemmas.{asking-done, asking-cut, answering-cut, sending-cut, closing, closing-few, ended-body}
+use Rattle.orb_engine.proofs.FinishLemmas.{request_head-done, request_head-cut, response_head-cut, open_body-cut, closing, closing-few, ended-body}
 use Rattle.orb_engine.proofs.engine.Engine.finish.Goals as goal
 
 pub returns-then-not-incoming-clause-halts : goal.returns-then-not-incoming-clause-halts
 returns-then-not-incoming-clause-halts g c = λ s m given r.
     let h = open-body c.in-Body.incoming c.args.self.now s m given r c.in-Body.is in
     Gives-none _ given _ (g.met.O.Sink.told_agrees c.args.output.now)
-    (rw c.place.ensures (sending-cut c.in-Body.incoming c.args.self.now s m given h c.if-not-incoming.true))
+    (rw c.offset.ensures (open_body-cut c.in-Body.incoming c.args.self.now s m given h c.if-not-incoming.true))
 
 pub close-requires-clause-can : goal.close-requires-clause-can
 close-requires-clause-can g c =
@@ -28,18 +28,18 @@ pub returns-then-is_empty-clause-halts : goal.returns-then-is_empty-clause-halts
 returns-then-is_empty-clause-halts g c = λ s m given r.
     let empty : c.as_slice.result.now ≡ [] = nil_from_length _ (eqb-true _ _ (sym c.is_empty.ensures ∙ c.if-is_empty.true)) in
     Gives-none _ given _ (g.met.O.Sink.told_agrees c.args.output.now)
-    (asking-done c.args.self.now s m given (open-request c.args.self.now s m given r c.in-RequestHead.is) (sym c.as_slice.ensures.value ∙ empty))
+    (request_head-done c.args.self.now s m given (open-request c.args.self.now s m given r c.in-RequestHead.is) (sym c.as_slice.ensures.value ∙ empty))
 
 pub returns-else-is_empty-clause-halts : goal.returns-else-is_empty-clause-halts
 returns-else-is_empty-clause-halts g c = λ s m given r.
     Gives-none _ given _ (g.met.O.Sink.told_agrees c.args.output.now)
-    (rw c.place.ensures (asking-cut c.args.self.now s m given (open-request c.args.self.now s m given r c.in-RequestHead.is)
+    (rw c.offset.ensures (request_head-cut c.args.self.now s m given (open-request c.args.self.now s m given r c.in-RequestHead.is)
     (λ empty. false≢true (sym c.if-is_empty.false ∙ c.is_empty.ensures ∙ ap (λ x. eqb (length x) 0) (c.as_slice.ensures.value ∙ empty)))))
 
 pub returns-in-ResponseHead-clause-halts : goal.returns-in-ResponseHead-clause-halts
 returns-in-ResponseHead-clause-halts g c = λ s m given r.
     Gives-none _ given _ (g.met.O.Sink.told_agrees c.args.output.now)
-    (rw c.place.ensures (answering-cut c.in-ResponseHead.field-0 c.args.self.now s m given
+    (rw c.offset.ensures (response_head-cut c.in-ResponseHead.field-0 c.args.self.now s m given
     (open-response c.in-ResponseHead.field-0 c.args.self.now s m given r c.in-ResponseHead.is)))
 
 pub returns-in-Ok-clause-halts : goal.returns-in-Ok-clause-halts

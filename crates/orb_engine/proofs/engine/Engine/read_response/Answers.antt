@@ -10,16 +10,16 @@ begin_body-requires-clause-can g c =
       m,
       given,
       response-good c.args.asked (c.in-Ok.decider, c.in-Ok.frame) c.args.self.now _ s m given h
-          (record { media = refl; place = refl; counts = refl; told = refl; writer = refl }) c.response.ensures.same refl c.in-Ok.ensures.reads,
+          (record { media = refl; offset = refl; counts = refl; told = refl; writer = refl }) c.response.ensures.same refl c.in-Ok.ensures.reads,
     )
 
 pub returns-in-Ok-clause-settles : goal.returns-in-Ok-clause-settles
 returns-in-Ok-clause-settles g c = λ s m given h.
     c.begin_body.ensures.settles s m given (response-good c.args.asked (c.in-Ok.decider, c.in-Ok.frame) c.args.self.now _ s m given h
-    (record { media = refl; place = refl; counts = refl; told = refl; writer = refl }) c.response.ensures.same refl c.in-Ok.ensures.reads)
+    (record { media = refl; offset = refl; counts = refl; told = refl; writer = refl }) c.response.ensures.same refl c.in-Ok.ensures.reads)
 
 pub returns-in-Err-clause-settles : goal.returns-in-Err-clause-settles
 returns-in-Err-clause-settles g c = λ s m given h.
     Gives-none _ given _ (g.met.O.Sink.told_agrees c.args.output.now)
     (response-bad c.args.asked c.args.self.now _ s m given c.in-Err.kind h
-    (record { media = refl; place = refl; counts = refl; told = refl; writer = refl }) c.in-Err.ensures.reads)
+    (record { media = refl; offset = refl; counts = refl; told = refl; writer = refl }) c.in-Err.ensures.reads)

@@ -20,17 +20,17 @@ returns-clause-reads c =
     let empty = c.clear-3.ensures.empty in
     record {
       reads = record {
-        items = [];
-        tail = cut.Asking [];
-        cut = record { spells = refl; items = tt; tail = open-none; last = λ _. refl };
+        exchanges = [];
+        tail = cut.InRequestHead [];
+        cut = record { spells = refl; exchanges = tt; tail = open-none; last = λ _. refl };
         open_ = refl;
         gave = ap (λ (b : OutboxState). b.bytes) empty;
         taken = refl;
         common = record {
           settings = c.clear-3.ensures.same.settings;
-          place = refl;
+          offset = refl;
           counts = refl;
-          told = record { front = []; others = []; are = refl; numbers = refl; whole = ([], refl) };
+          told = record { prefix = []; others = []; are = refl; numbers = refl; whole = ([], refl) };
         };
         stands = record {
           head = [];
@@ -39,7 +39,7 @@ returns-clause-reads c =
           media = c.clear.ensures;
           writer = record {
             worker = subst (λ (w : Worker). IsWorkerFor w s) (sym c.clear-3.ensures.same.worker) c.args.self.now.writer.worker_for;
-            calm = ap (λ (b : OutboxState). b.faults) empty;
+            no_faults = ap (λ (b : OutboxState). b.faults) empty;
           };
         };
       };

@@ -12,7 +12,7 @@ steps-init g c = record {
   can = c.requires.can;
   goes = λ s m given r. Gives-none _ given _ (g.met.O.Sink.told_agrees c.args.output.now)
       (subst (λ (x : List ℕ). Reads c.args.self.now s x given) (sym (append-nil m)) r);
-  calm = refl;
+  no_faults = refl;
   keeps = g.met.O.Sink.kept_reflexive c.args.output.now;
   taken = omega arith;
   settings = refl;
@@ -39,7 +39,7 @@ steps-preserved g c =
           Gives-weaker _ _ (given ++ more) _ _
           (λ further step. subst (λ (x : List ℕ). Reads c.step.new.self s x ((given ++ more) ++ further)) (append_assoc m i.prefix piece) step.1)
           (c.in-Ok.ensures.steps s (m ++ i.prefix) (given ++ more) reads));
-      calm = c.in-Ok.ensures.causes ∙ i.calm;
+      no_faults = c.in-Ok.ensures.causes ∙ i.no_faults;
       keeps = g.met.O.Sink.kept_transitive _ _ _ i.keeps c.in-Ok.ensures.keeps;
       taken = omega (arith, c.in-Ok.ensures.taken, i.taken, length-append i.prefix piece, length-take-le c.in-Ok.used c.steps.rest.now step0.holds.0);
       settings = c.in-Ok.ensures.settings ∙ i.settings;

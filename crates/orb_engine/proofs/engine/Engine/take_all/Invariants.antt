@@ -12,7 +12,7 @@ invariant-steps g l = record {
   can : (s : Settings) × (m : List ℕ) × (given : List ℕ) × Reads l.self s m given;
   goes : (s : Settings) (m given : List ℕ) → Reads l.initial.self s m given
       → Gives (g.O.Sink.told l.initial.output) (g.O.Sink.told l.output) given (Reads l.self s (m ++ prefix));
-  calm : g.O.Sink.faults l.output ≡ g.O.Sink.faults l.initial.output;
+  no_faults : g.O.Sink.faults l.output ≡ g.O.Sink.faults l.initial.output;
   keeps : g.O.Sink.kept l.initial.output l.output;
   taken : l.self.progress.taken ≡ l.initial.self.progress.taken + length prefix;
   settings : l.self.writer.settings ≡ l.initial.self.writer.settings;

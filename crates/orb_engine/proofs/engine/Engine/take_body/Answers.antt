@@ -4,7 +4,7 @@ use Rattle.orb_io.proofs.GivesLemmas.{Gives-none, Gives-weaker, Gives-then}
 use Rattle.orb_engine.specs.declared.engine.Engine.{Engine}
 use Rattle.orb_engine.specs.declared.outcome.EngineOutcome.TheVariants as outcome
 use Rattle.orb_engine.specs.declared.progress.Progress.{Progress}
-use Rattle.orb_engine.specs.Outputs.{written_items}
+use Rattle.orb_engine.specs.Outputs.{written_exchanges}
 use Rattle.orb_engine.specs.Reads.{coming_response, with_unframer}
 use Rattle.orb_engine.proofs.HeadStepLemmas.{took, halts-piece}
 use Rattle.orb_engine.proofs.BodyStepLemmas.{in-body, open-body, body-got, body-few, body-bad, not-zero}
@@ -34,13 +34,13 @@ settle_body-requires-clause-can g c =
     let p = body-got i u e e1 s m given c.args.piece.now c.in-Got.body.now c.in-Got.used h (took e e1 c.in-Got.used refl refl c.advance.ensures)
     (took_.answers h.coming.heads.response.frame h.coming.sent h.coming.body h.receives.unframer)
     (ap (λ (p : Progress). p.taken) c.advance.ensures) in
-    let passed = c.in-Ok.ensures.passes s (coming_response s p.coming) p.coming.body given (written_items s map.empty 0 p.coming.items) p.writer p.gave in (
+    let passed = c.in-Ok.ensures.passes s (coming_response s p.coming) p.coming.body given (written_exchanges s map.empty 0 p.coming.exchanges) p.writer p.gave in (
       s,
       m ++ take c.in-Got.used c.args.piece.now,
       given ++ passed.more,
       fills-at _ (with_unframer i u) _ s _ _ (search)
           (passed-fills (with_unframer i u) e1 _ s _ c.in-Got.body.now given passed.more p
-          (record { media = refl; place = refl; taken = refl; counts = refl; told = refl; settings = c.in-Ok.ensures.settings })
+          (record { media = refl; offset = refl; taken = refl; counts = refl; told = refl; settings = c.in-Ok.ensures.settings })
           passed.holds.0 passed.holds.1),
     )
 
@@ -70,7 +70,7 @@ returns-in-Bad-clause-steps g c = λ s m given r.
     let h = open-body i e s m given r is in
     Gives-none _ given _ (g.met.O.Sink.told_agrees c.args.output.now)
     (rw c.taken.ensures (body-bad i u.unframer e _ s m given c.args.piece.now c.in-Bad.at h
-    (record { media = refl; place = refl; counts = refl; told = refl; writer = refl })
+    (record { media = refl; offset = refl; counts = refl; told = refl; writer = refl })
     (u.answers h.coming.heads.response.frame h.coming.sent h.coming.body h.receives.unframer)))
 
 pub returns-in-Ok-settle_body-clause-steps : goal.returns-in-Ok-settle_body-clause-steps
@@ -84,12 +84,12 @@ returns-in-Ok-settle_body-clause-steps g c = λ s m given r.
     let p = body-got i u e e1 s m given c.args.piece.now c.in-Got.body.now c.in-Got.used h (took e e1 c.in-Got.used refl refl c.advance.ensures)
     (took_.answers h.coming.heads.response.frame h.coming.sent h.coming.body h.receives.unframer)
     (ap (λ (p : Progress). p.taken) c.advance.ensures) in
-    Gives-then _ _ _ given _ _ (c.in-Ok.ensures.passes s (coming_response s p.coming) p.coming.body given (written_items s map.empty 0 p.coming.items) p.writer p.gave)
+    Gives-then _ _ _ given _ _ (c.in-Ok.ensures.passes s (coming_response s p.coming) p.coming.body given (written_exchanges s map.empty 0 p.coming.exchanges) p.writer p.gave)
     (λ more passed. Gives-weaker _ _ (given ++ more) _ _ (λ further reads. ((took_.answers h.coming.heads.response.frame h.coming.sent h.coming.body h.receives.unframer).within, reads))
     (c.in-Ok-settle_body.ensures.settles s (m ++ take c.in-Got.used c.args.piece.now) (given ++ more)
     (fills-at _ (with_unframer i u) _ s _ _ (search)
     (passed-fills (with_unframer i u) e1 _ s _ c.in-Got.body.now given more p
-    (record { media = refl; place = refl; taken = refl; counts = refl; told = refl; settings = c.in-Ok.ensures.settings }) passed.0 passed.1))))
+    (record { media = refl; offset = refl; taken = refl; counts = refl; told = refl; settings = c.in-Ok.ensures.settings }) passed.0 passed.1))))
 
 pub returns-in-Err-settle_body-clause-steps : goal.returns-in-Err-settle_body-clause-steps
 returns-in-Err-settle_body-clause-steps g c = λ s m given r.
@@ -102,13 +102,13 @@ returns-in-Err-settle_body-clause-steps g c = λ s m given r.
     let p = body-got i u e e1 s m given c.args.piece.now c.in-Got.body.now c.in-Got.used h (took e e1 c.in-Got.used refl refl c.advance.ensures)
     (took_.answers h.coming.heads.response.frame h.coming.sent h.coming.body h.receives.unframer)
     (ap (λ (p : Progress). p.taken) c.advance.ensures) in
-    Gives-then _ _ _ given _ _ (c.in-Ok.ensures.passes s (coming_response s p.coming) p.coming.body given (written_items s map.empty 0 p.coming.items) p.writer p.gave)
+    Gives-then _ _ _ given _ _ (c.in-Ok.ensures.passes s (coming_response s p.coming) p.coming.body given (written_exchanges s map.empty 0 p.coming.exchanges) p.writer p.gave)
     (λ more passed. Gives-weaker _ _ (given ++ more) _ _
     (λ further halts. halts-piece c.in-Err-settle_body.stop _ s m c.args.piece.now ((given ++ more) ++ further) c.in-Got.used halts)
     (c.in-Err-settle_body.ensures.settles s (m ++ take c.in-Got.used c.args.piece.now) (given ++ more)
     (fills-at _ (with_unframer i u) _ s _ _ (search)
     (passed-fills (with_unframer i u) e1 _ s _ c.in-Got.body.now given more p
-    (record { media = refl; place = refl; taken = refl; counts = refl; told = refl; settings = c.in-Ok.ensures.settings }) passed.0 passed.1))))
+    (record { media = refl; offset = refl; taken = refl; counts = refl; told = refl; settings = c.in-Ok.ensures.settings }) passed.0 passed.1))))
 
 pub returns-in-Err-clause-steps : goal.returns-in-Err-clause-steps
 returns-in-Err-clause-steps g c = λ s m given r.
@@ -123,5 +123,5 @@ returns-in-Err-clause-steps g c = λ s m given r.
     (ap (λ (p : Progress). p.taken) c.advance.ensures) in
     Gives-weaker _ _ given _ _ (λ more within. halts-piece outcome.WriteFault _ s m c.args.piece.now (given ++ more) c.in-Got.used
     (passed-breaks (with_unframer i u) e1 _ s _ c.in-Got.body.now given more p
-    (record { media = refl; place = refl; taken = refl; counts = refl; told = refl; settings = c.in-Err.ensures.settings }) within))
-    (c.in-Err.ensures.passes s (coming_response s p.coming) p.coming.body given (written_items s map.empty 0 p.coming.items) p.writer p.gave)
+    (record { media = refl; offset = refl; taken = refl; counts = refl; told = refl; settings = c.in-Err.ensures.settings }) within))
+    (c.in-Err.ensures.passes s (coming_response s p.coming) p.coming.body given (written_exchanges s map.empty 0 p.coming.exchanges) p.writer p.gave)

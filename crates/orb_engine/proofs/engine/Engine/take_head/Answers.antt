@@ -36,8 +36,8 @@ returns-in-Long-clause-steps g c = λ s m given r.
     let e = c.args.self.now in
     let (prefix, rest, is, head, long) = c.in-Long.ensures in
     Gives-none _ given _ (g.met.O.Sink.told_agrees c.args.output.now)
-    (rw (is, c.head_place.ensures) (head-long e.state e _ s m given prefix rest (open-head e.state e s m given refl c.requires.head r)
-    (record { media = refl; place = refl; counts = refl; told = refl; writer = refl }) head long))
+    (rw (is, c.head_offset.ensures) (head-long e.state e _ s m given prefix rest (open-head e.state e s m given refl c.requires.head r)
+    (record { media = refl; offset = refl; counts = refl; told = refl; writer = refl }) head long))
 
 pub returns-in-Ok-clause-steps : goal.returns-in-Ok-clause-steps
 returns-in-Ok-clause-steps g c = λ s m given r.

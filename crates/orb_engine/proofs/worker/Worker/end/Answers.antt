@@ -1,16 +1,16 @@
 use Rattle.std.proofs.Common.{◌++◌, ap, ◌∙◌}
 use Rattle.orb_io.proofs.GivesLemmas.{Gives-of, Delivers-fault, Delivers-as}
-use Rattle.body_filter.specs.Exchanges.{front_of, whole_of}
+use Rattle.body_filter.specs.Responses.{output_so_far, whole_output}
 use Rattle.orb_engine.specs.declared.worker.Worker.TheVariants as worker
-use Rattle.orb_engine.specs.Outputs.{written_front, written_whole}
-use Rattle.orb_engine.proofs.WorkLemmas.{for-filter, for-explain, reads-filter, reads-explain, front-filter, front-explain, whole-filter, line-written}
+use Rattle.orb_engine.specs.Outputs.{written_so_far, written_whole}
+use Rattle.orb_engine.proofs.WorkLemmas.{for-filter, for-explain, reads-filter, reads-explain, so_far-filter, so_far-explain, whole-filter, line-written}
 use Rattle.orb_engine.proofs.worker.Worker.end.Goals as goal
 
 pub returns-in-Filters-clause-delivers : goal.returns-in-Filters-clause-delivers
 returns-in-Filters-clause-delivers g c = λ s x m works size.
     let it = for-filter c.args.self.now _ s c.in-Filters.is works.is_for in
-    Delivers-as _ _ c.end.result (front_of x m) (written_front s.job x m) (whole_of x m) (written_whole s.job c.args.number x m) _ _
-    (front-filter s.job x m it.0) (whole-filter s.job c.args.number x m it.0) (λ _ verdict. verdict)
+    Delivers-as _ _ c.end.result (output_so_far x m) (written_so_far s.job x m) (whole_output x m) (written_whole s.job c.args.number x m) _ _
+    (so_far-filter s.job x m it.0) (whole-filter s.job c.args.number x m it.0) (λ _ verdict. verdict)
     (c.end.ensures.delivers x m (reads-filter c.args.self.now _ x m c.in-Filters.is works.reads))
 
 pub returns-in-Ok-clause-delivers : goal.returns-in-Ok-clause-delivers
@@ -22,8 +22,8 @@ returns-in-Ok-clause-delivers g c = λ s x m works size.
     let line = c.as_slice.result.now in
     let owed = line-written c.args.number c.args.size s x m c.finish-verdict.result line it verdict size
     (c.as_slice.ensures.value ∙ c.line.ensures) in
-    Gives-of _ _ (written_front s.job x m) line _ c.in-Ok.ensures.bytes
-    (ap (λ t. t ++ line) (front-explain s.job x m it) ∙ owed, verdict)
+    Gives-of _ _ (written_so_far s.job x m) line _ c.in-Ok.ensures.bytes
+    (ap (λ t. t ++ line) (so_far-explain s.job x m it) ∙ owed, verdict)
 
 pub returns-in-Err-clause-delivers : goal.returns-in-Err-clause-delivers
 returns-in-Err-clause-delivers g c = λ s x m works size.
@@ -34,5 +34,5 @@ returns-in-Err-clause-delivers g c = λ s x m works size.
     let line = c.as_slice.result.now in
     let owed = line-written c.args.number c.args.size s x m c.finish-verdict.result line it verdict size
     (c.as_slice.ensures.value ∙ c.line.ensures) in
-    Delivers-fault _ _ (written_front s.job x m) line _ c.in-Err.ensures.bytes
-    (ap (λ t. t ++ line) (front-explain s.job x m it) ∙ owed)
+    Delivers-fault _ _ (written_so_far s.job x m) line _ c.in-Err.ensures.bytes
+    (ap (λ t. t ++ line) (so_far-explain s.job x m it) ∙ owed)

@@ -1,17 +1,17 @@
 use Rattle.std.proofs.Common.{◌++◌, sym, ap, ◌∙◌}
 use Rattle.orb_io.proofs.GivesLemmas.{Gives-none, Delivers-as}
-use Rattle.body_filter.specs.Exchanges.{front_of}
+use Rattle.body_filter.specs.Responses.{output_so_far}
 use Rattle.orb_engine.specs.declared.worker.Worker.TheVariants as worker
-use Rattle.orb_engine.specs.Outputs.{written_front}
-use Rattle.orb_engine.proofs.WorkLemmas.{for-filter, for-explain, reads-filter, reads-explain, front-filter, front-explain}
+use Rattle.orb_engine.specs.Outputs.{written_so_far}
+use Rattle.orb_engine.proofs.WorkLemmas.{for-filter, for-explain, reads-filter, reads-explain, so_far-filter, so_far-explain}
 use Rattle.orb_engine.proofs.worker.Worker.feed.Goals as goal
 
 pub returns-in-Filters-clause-delivers : goal.returns-in-Filters-clause-delivers
 returns-in-Filters-clause-delivers g c = λ s x m works.
     let it = for-filter c.args.self.now _ s c.in-Filters.is works.is_for in
     let longer = m ++ c.args.body.now in
-    Delivers-as _ _ c.feed.result (front_of x m) (written_front s.job x m) (front_of x longer) (written_front s.job x longer) _ _
-    (front-filter s.job x m it.0) (front-filter s.job x longer it.0)
+    Delivers-as _ _ c.feed.result (output_so_far x m) (written_so_far s.job x m) (output_so_far x longer) (written_so_far s.job x longer) _ _
+    (so_far-filter s.job x m it.0) (so_far-filter s.job x longer it.0)
     (λ _ reads. record { is_for = (it.0, c.feed.ensures.limit ∙ it.1); reads = reads })
     (c.feed.ensures.delivers x m (reads-filter c.args.self.now _ x m c.in-Filters.is works.reads))
 
@@ -20,7 +20,7 @@ returns-in-Explains-Some-clause-delivers g c = λ s x m works.
     let self_is = c.in-Explains-Some.is ∙ ap worker.Explains c.in-Explains-Some.field-0-is in
     let it = for-explain c.args.self.now _ s self_is works.is_for in
     let reads = reads-explain c.args.self.now _ x m self_is works.reads in
-    Gives-none _ (written_front s.job x m) _ (g.met.O.Sink.told_agrees c.args.sink.now) (
-      front-explain s.job x m it ∙ sym (front-explain s.job x (m ++ c.args.body.now) it),
+    Gives-none _ (written_so_far s.job x m) _ (g.met.O.Sink.told_agrees c.args.sink.now) (
+      so_far-explain s.job x m it ∙ sym (so_far-explain s.job x (m ++ c.args.body.now) it),
       record { is_for = it; reads = c.feed-progress.ensures.reads x.head m reads },
     )

@@ -2,10 +2,10 @@ use Rattle.std.proofs.Common.{◌++◌, sym, ap, subst, ◌∙◌, arith}
 use Rattle.orb_io.proofs.GivesLemmas.{Gives-none, Gives-weaker, Gives-then}
 use Rattle.orb_engine.specs.declared.worker.Worker.{Worker}
 use Rattle.orb_io.specs.Outboxes.{OutboxState}
-use Rattle.orb_engine.specs.Outputs.{written_front, written_whole}
+use Rattle.orb_engine.specs.Outputs.{written_so_far, written_whole}
 use Rattle.orb_engine.specs.Workers.{Works}
 use Rattle.orb_engine.specs.Writing.{box_of, gathered_by}
-use Rattle.orb_engine.proofs.ClosingLemmas.{front-in-whole}
+use Rattle.orb_engine.proofs.ClosingLemmas.{so_far-in-whole}
 use Rattle.orb_engine.proofs.WorkLemmas.{whole-most}
 use Rattle.orb_engine.proofs.GatherLemmas.{boxed, boxed-err, direct, flush-broken}
 use Rattle.orb_engine.proofs.writer.Writer.end.Goals as goal
@@ -16,8 +16,8 @@ unreachable-requires g c =
     let m = c.requires.m in
     let s = c.requires.s in
     let reads = c.requires.reads in
-    boxed-err (box_of c.args.self.now) c.end.new.sink (written_front s.job x m) (written_whole s.job c.args.number x m) c.most.result
-    (c.in-Err.ensures.delivers s x m reads.works reads.body) c.in-Err.ensures.calls.keeps c.in-Err.ensures.calls.cause reads.calm
+    boxed-err (box_of c.args.self.now) c.end.new.sink (written_so_far s.job x m) (written_whole s.job c.args.number x m) c.most.result
+    (c.in-Err.ensures.delivers s x m reads.works reads.body) c.in-Err.ensures.calls.keeps c.in-Err.ensures.calls.cause reads.no_faults
     (c.has_room.ensures.0 c.if-has_room.true)
     (omega (arith, whole-most s c.args.number x m c.ranges.number.fits (omega (arith, reads.body, c.args.self.now.few)), c.most.ensures, reads.head, reads.body))
 
@@ -25,12 +25,12 @@ pub returns-in-Ok-clause-passes : goal.returns-in-Ok-clause-passes
 returns-in-Ok-clause-passes g c = λ s x m given before reads gave.
     let put = c.in-Ok.ensures.delivers s x m reads.works reads.body in
     Gives-none _ given _ (g.met.O.Sink.told_agrees c.args.output.now) (
-      boxed given (gathered_by c.args.self.now) _ before (written_front s.job x m) _ put.more gave put.gained.bytes put.holds.0,
+      boxed given (gathered_by c.args.self.now) _ before (written_so_far s.job x m) _ put.more gave put.gained.bytes put.holds.0,
       (
         put.holds.1,
         record {
           worker = c.in-Ok.ensures.worker s reads.works.is_for;
-          calm = c.in-Ok.ensures.calls.cause ∙ reads.calm;
+          no_faults = c.in-Ok.ensures.calls.cause ∙ reads.no_faults;
         },
       ),
     )
@@ -44,15 +44,15 @@ returns-in-Ok-flush-clause-passes g c = λ s x m given before reads gave.
       verdict,
       record {
         worker = c.end-in-Ok-flush.ensures.worker s works.is_for;
-        calm = ap (λ (b : OutboxState). b.faults) flushed.1;
+        no_faults = ap (λ (b : OutboxState). b.faults) flushed.1;
       },
-    )) c.end-in-Ok-flush.result _ _ _ (given ++ more) before (written_front s.job x m) (written_whole s.job c.args.number x m)
+    )) c.end-in-Ok-flush.result _ _ _ (given ++ more) before (written_so_far s.job x m) (written_whole s.job c.args.number x m)
     (flushed.0 ∙ gave) (ap (λ (b : OutboxState). b.bytes) flushed.1)
     (c.end-in-Ok-flush.ensures.delivers s x m works (same.body ∙ reads.body)))
 
 pub returns-in-Err-flush-clause-passes : goal.returns-in-Err-flush-clause-passes
 returns-in-Err-flush-clause-passes g c = λ s x m given before reads gave.
     Gives-weaker _ _ given _ _ (λ more within.
-    flush-broken given (gathered_by c.args.self.now) before (written_front s.job x m) _ (given ++ more) gave
-    (front-in-whole s.job c.args.number x m) within)
+    flush-broken given (gathered_by c.args.self.now) before (written_so_far s.job x m) _ (given ++ more) gave
+    (so_far-in-whole s.job c.args.number x m) within)
     (c.in-Err-flush.ensures.delivers given)

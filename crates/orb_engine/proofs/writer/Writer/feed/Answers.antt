@@ -2,11 +2,11 @@ use Rattle.std.proofs.Common.{◌++◌, length-append, sym, ap, subst, ◌∙◌
 use Rattle.orb_io.proofs.GivesLemmas.{Gives-none, Gives-weaker, Gives-then}
 use Rattle.orb_engine.specs.declared.worker.Worker.{Worker}
 use Rattle.orb_io.specs.Outboxes.{OutboxState}
-use Rattle.orb_engine.specs.Outputs.{written_front}
+use Rattle.orb_engine.specs.Outputs.{written_so_far}
 use Rattle.orb_engine.specs.Workers.{Works}
 use Rattle.orb_engine.specs.Writing.{box_of, gathered_by}
-use Rattle.orb_engine.proofs.OutputLaws.{written_front-grows}
-use Rattle.orb_engine.proofs.WorkLemmas.{front-most}
+use Rattle.orb_engine.proofs.OutputLaws.{written_so_far-grows}
+use Rattle.orb_engine.proofs.WorkLemmas.{so_far-most}
 use Rattle.orb_engine.proofs.GatherLemmas.{boxed, boxed-err, direct, flush-broken}
 use Rattle.orb_engine.proofs.writer.Writer.feed.Goals as goal
 
@@ -16,19 +16,19 @@ unreachable-requires g c =
     let m = c.requires.can.m in
     let s = c.requires.can.s in
     let reads = c.requires.can.reads in
-    boxed-err (box_of c.args.self.now) c.feed.new.sink (written_front s.job x m) (written_front s.job x (m ++ c.args.body.now)) c.most.result
-    (c.in-Err.ensures.delivers s x m reads.works) c.in-Err.ensures.calls.keeps c.in-Err.ensures.calls.cause reads.calm
+    boxed-err (box_of c.args.self.now) c.feed.new.sink (written_so_far s.job x m) (written_so_far s.job x (m ++ c.args.body.now)) c.most.result
+    (c.in-Err.ensures.delivers s x m reads.works) c.in-Err.ensures.calls.keeps c.in-Err.ensures.calls.cause reads.no_faults
     (c.has_room.ensures.0 c.if-has_room.true)
-    (omega (arith, front-most s.job x (m ++ c.args.body.now), length-append m c.args.body.now, c.most.ensures, reads.head, reads.body))
+    (omega (arith, so_far-most s.job x (m ++ c.args.body.now), length-append m c.args.body.now, c.most.ensures, reads.head, reads.body))
 
 pub returns-in-Ok-clause-passes : goal.returns-in-Ok-clause-passes
 returns-in-Ok-clause-passes g c = λ s x m given before reads gave.
     let put = c.in-Ok.ensures.delivers s x m reads.works in
     Gives-none _ given _ (g.met.O.Sink.told_agrees c.args.output.now) (
-      boxed given (gathered_by c.args.self.now) _ before (written_front s.job x m) _ put.more gave put.gained.bytes put.holds.0,
+      boxed given (gathered_by c.args.self.now) _ before (written_so_far s.job x m) _ put.more gave put.gained.bytes put.holds.0,
       record {
         works = put.holds.1;
-        calm = c.in-Ok.ensures.calls.cause ∙ reads.calm;
+        no_faults = c.in-Ok.ensures.calls.cause ∙ reads.no_faults;
         head = reads.head;
         body = omega (arith, length-append m c.args.body.now, reads.body);
       },
@@ -41,15 +41,15 @@ returns-in-Ok-flush-clause-passes g c = λ s x m given before reads gave.
     Gives-then _ _ _ given _ _ (c.in-Ok-flush.ensures.delivers given) (λ more flushed.
     direct _ _ (λ _ works. record {
       works = works;
-      calm = ap (λ (b : OutboxState). b.faults) flushed.1;
+      no_faults = ap (λ (b : OutboxState). b.faults) flushed.1;
       head = same.head ∙ reads.head;
       body = omega (arith, same.body, length-append m c.args.body.now, reads.body);
-    }) c.feed-in-Ok-flush.result _ _ _ (given ++ more) before (written_front s.job x m) (written_front s.job x (m ++ c.args.body.now))
+    }) c.feed-in-Ok-flush.result _ _ _ (given ++ more) before (written_so_far s.job x m) (written_so_far s.job x (m ++ c.args.body.now))
     (flushed.0 ∙ gave) (ap (λ (b : OutboxState). b.bytes) flushed.1) (c.feed-in-Ok-flush.ensures.delivers s x m works))
 
 pub returns-in-Err-flush-clause-passes : goal.returns-in-Err-flush-clause-passes
 returns-in-Err-flush-clause-passes g c = λ s x m given before reads gave.
     Gives-weaker _ _ given _ _ (λ more within.
-    flush-broken given (gathered_by c.args.self.now) before (written_front s.job x m) _ (given ++ more) gave
-    (written_front-grows s.job x m c.args.body.now) within)
+    flush-broken given (gathered_by c.args.self.now) before (written_so_far s.job x m) _ (given ++ more) gave
+    (written_so_far-grows s.job x m c.args.body.now) within)
     (c.in-Err-flush.ensures.delivers given)

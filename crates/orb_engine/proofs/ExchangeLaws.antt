@@ -11,25 +11,25 @@ use Rattle.response_rules.specs.Tables.{window_rule_of}
 use Rattle.http_exchange.specs.Frames.{IsFront, IsWhole}
 use Rattle.http_exchange.proofs.UnframerLemmas.{one_front}
 use Rattle.orb_engine.specs.declared.settings.Settings.{Settings}
-use Rattle.orb_engine.specs.Heads.{Heads, judged_by, exchange_of}
+use Rattle.orb_engine.specs.Heads.{Heads, judged_by, response_of}
 use Rattle.orb_engine.specs.Recording as cut
-use Rattle.orb_engine.specs.Recording.{Item, Tail, IsItem, IsTail, IsSending, IsBadBody, IsUndecided, spell_heads, spell_item, spell_tail, is_open}
-use Rattle.orb_engine.specs.Outputs.{written_front, written_whole, written_tail}
+use Rattle.orb_engine.specs.Recording.{Exchange, Tail, IsExchange, IsTail, IsOpenBody, IsBadBody, IsUndecided, spell_heads, spell_exchange, spell_tail, is_open}
+use Rattle.orb_engine.specs.Outputs.{written_so_far, written_whole, written_tail}
 use Rattle.orb_engine.proofs.BodyLaws.{one_goes_on, longer_front, within_stuck, text-rule, same_whole}
-use Rattle.orb_engine.proofs.OutputLaws.{written_front-grows, written_front-whole, written_front-undecided}
+use Rattle.orb_engine.proofs.OutputLaws.{written_so_far-grows, written_so_far-whole, written_so_far-undecided}
 use Rattle.orb_engine.proofs.StartLaws.{Asked, Answered, IsStart, one_start, ask_of, answer_of, start_of_heads, start_of_tail, same_heads}
 use Rattle.orb_engine.proofs.TailLaws.{reached_not_sending, reached_not_bad, undecided_reached, item_not_undecided, moved, alone, same_tails}
 
 -- ---- an item and a tail
 
-not_item_by : (s : Settings) (table : States) (i : Item) (r : List ℕ) (u : Tail) (others : List ℕ)
-    → IsItem s table i → IsTail s table u → (is_open u ≡ true → others ≡ [])
+not_item_by : (s : Settings) (table : States) (i : Exchange) (r : List ℕ) (u : Tail) (others : List ℕ)
+    → IsExchange s table i → IsTail s table u → (is_open u ≡ true → others ≡ [])
     → Asked i.heads.request (i.heads.response.bytes ++ (i.sent ++ r)) ≡ ask_of u others
     → Answered i.heads.response (i.sent ++ r) ≡ answer_of u others → ⊥
-not_item_by s table i r (cut.Sending k n c) others x y end a b =
+not_item_by s table i r (cut.InBody k n c) others x y end a b =
     let h = i.heads in
     let p = same_heads h k _ _ (i.sent ++ r) (n ++ others) a b in
-    reached_not_sending s table h i.sent r n i.body c (inl x.whole) x.front (moved (λ j. IsSending s table j n c) h k p.0 y) (p.1 ∙ alone n others (end refl))
+    reached_not_sending s table h i.sent r n i.body c (inl x.whole) x.front (moved (λ j. IsOpenBody s table j n c) h k p.0 y) (p.1 ∙ alone n others (end refl))
 not_item_by s table i r (cut.BadBody k n c d) others x y end a b =
     let h = i.heads in
     let p = same_heads h k _ _ (i.sent ++ r) (n ++ (d ∷ others)) a b in
@@ -40,30 +40,30 @@ not_item_by s table i r (cut.Undecided k n c) others x y end a b =
     item_not_undecided s table h i.sent r n others i.body c i.rule x.front x.whole x.decided (moved (λ j. IsUndecided s table j n c) h k p.0 y) p.1
 not_item_by s table i r _ others x y end a b = absurd (cc)
 
-start_of_item : (s : Settings) (table : States) (i : Item) (r : List ℕ) → IsItem s table i
-    → IsStart table (spell_item i r) (Asked i.heads.request (i.heads.response.bytes ++ (i.sent ++ r))) (Answered i.heads.response (i.sent ++ r))
+start_of_item : (s : Settings) (table : States) (i : Exchange) (r : List ℕ) → IsExchange s table i
+    → IsStart table (spell_exchange i r) (Asked i.heads.request (i.heads.response.bytes ++ (i.sent ++ r))) (Answered i.heads.response (i.sent ++ r))
 start_of_item s table i r x = start_of_heads table i.heads (i.sent ++ r) x.heads
 
-pub item_not_tail : (s : Settings) (table : States) (i : Item) (r : List ℕ) (u : Tail) (others : List ℕ)
-    → IsItem s table i → IsTail s table u → (is_open u ≡ true → others ≡ []) → spell_item i r ≡ spell_tail u others → ⊥
+pub item_not_tail : (s : Settings) (table : States) (i : Exchange) (r : List ℕ) (u : Tail) (others : List ℕ)
+    → IsExchange s table i → IsTail s table u → (is_open u ≡ true → others ≡ []) → spell_exchange i r ≡ spell_tail u others → ⊥
 item_not_tail s table i r u others x y end e =
-    let start = one_start table (spell_item i r) _ (ask_of u others) _ (answer_of u others)
+    let start = one_start table (spell_exchange i r) _ (ask_of u others) _ (answer_of u others)
     (start_of_item s table i r x)
     (subst (λ l. IsStart table l (ask_of u others) (answer_of u others)) (sym e) (start_of_tail s table u others y end)) in
     not_item_by s table i r u others x y end start.0 start.1
 
--- ---- two items
+-- ---- two exchanges
 
-item_by : (i j : Item) → i.heads ≡ j.heads → i.sent ≡ j.sent → i.body ≡ j.body → i.rule ≡ j.rule → i ≡ j
+item_by : (i j : Exchange) → i.heads ≡ j.heads → i.sent ≡ j.sent → i.body ≡ j.body → i.rule ≡ j.rule → i ≡ j
 item_by i j p q r t =
     same i.heads j.heads i.sent j.sent i.body j.body i.rule j.rule p q r t
   where
     same : (h k : Heads) (m n g c : List ℕ) (a b : Rule) → h ≡ k → m ≡ n → g ≡ c → a ≡ b
-        → ◌≡◌ {A = Item} (record { heads = h; sent = m; body = g; rule = a }) (record { heads = k; sent = n; body = c; rule = b })
+        → ◌≡◌ {A = Exchange} (record { heads = h; sent = m; body = g; rule = a }) (record { heads = k; sent = n; body = c; rule = b })
     same h k m n g c a b p q r t = rw (p, q, r, t) refl
 
-same_items_by : (s : Settings) (table : States) (i : Item) (r : List ℕ) (j : Item) (q : List ℕ)
-    → IsItem s table i → IsItem s table j → i.heads ≡ j.heads → i.sent ++ r ≡ j.sent ++ q → (i ≡ j) × (r ≡ q)
+same_items_by : (s : Settings) (table : States) (i : Exchange) (r : List ℕ) (j : Exchange) (q : List ℕ)
+    → IsExchange s table i → IsExchange s table j → i.heads ≡ j.heads → i.sent ++ r ≡ j.sent ++ q → (i ≡ j) × (r ≡ q)
 same_items_by s table i r j q x y heads e =
     let f = i.heads.response.frame in
     let front : IsFront f j.sent j.body = subst (λ k. IsFront k.response.frame j.sent j.body) (sym heads) y.front in
@@ -77,14 +77,14 @@ same_items_by s table i r j q x y heads e =
       append_cancel_left i.sent r q (e ∙ ap (λ l. l ++ q) (sym sent)),
     )
 
-pub same_items : (s : Settings) (table : States) (i : Item) (r : List ℕ) (j : Item) (q : List ℕ)
-    → IsItem s table i → IsItem s table j → spell_item i r ≡ spell_item j q → (i ≡ j) × (r ≡ q)
+pub same_items : (s : Settings) (table : States) (i : Exchange) (r : List ℕ) (j : Exchange) (q : List ℕ)
+    → IsExchange s table i → IsExchange s table j → spell_exchange i r ≡ spell_exchange j q → (i ≡ j) × (r ≡ q)
 same_items s table i r j q x y e =
     let a = Asked i.heads.request (i.heads.response.bytes ++ (i.sent ++ r)) in
     let b = Asked j.heads.request (j.heads.response.bytes ++ (j.sent ++ q)) in
     let c = Answered i.heads.response (i.sent ++ r) in
     let d = Answered j.heads.response (j.sent ++ q) in
-    let start = one_start table (spell_item i r) a b c d (start_of_item s table i r x)
+    let start = one_start table (spell_exchange i r) a b c d (start_of_item s table i r x)
     (subst (λ l. IsStart table l b d) (sym e) (start_of_item s table j q y)) in
     let p = same_heads i.heads j.heads _ _ (i.sent ++ r) (j.sent ++ q) start.0 start.1 in
     same_items_by s table i r j q x y p.0 p.1
@@ -92,9 +92,9 @@ same_items s table i r j q x y e =
 -- ---- an open tail, and what stands there in longer bytes
 
 pub spell_tail-append : (t : Tail) (more x : List ℕ) → spell_tail t more ++ x ≡ spell_tail t (more ++ x)
-spell_tail-append (cut.Asking head) more x = append_assoc head more x
-spell_tail-append (cut.Answering r head) more x = simp append_assoc
-spell_tail-append (cut.Sending h m g) more x = simp append_assoc
+spell_tail-append (cut.InRequestHead head) more x = append_assoc head more x
+spell_tail-append (cut.InResponseHead r head) more x = simp append_assoc
+spell_tail-append (cut.InBody h m g) more x = simp append_assoc
 spell_tail-append (cut.LongRequest head) more x = append_assoc head more x
 spell_tail-append (cut.BadRequest head kind) more x = append_assoc head more x
 spell_tail-append (cut.FullTable r) more x = append_assoc r.bytes more x
@@ -104,9 +104,9 @@ spell_tail-append (cut.BadBody h m g b) more x = simp append_assoc
 spell_tail-append (cut.Undecided h m g) more x = simp append_assoc
 
 -- what goes on from a body that may go on, where its heads are the same
-grows_by_item : (s : Settings) (table : States) (h : Heads) (m g x : List ℕ) (i : Item) (r : List ℕ) (number : ℕ)
-    → IsSending s table h m g → IsItem s table i → h ≡ i.heads → m ++ x ≡ i.sent ++ r
-    → IsPrefix (written_front s.job (exchange_of s table h) g) (written_whole s.job number (exchange_of s table i.heads) i.body)
+grows_by_item : (s : Settings) (table : States) (h : Heads) (m g x : List ℕ) (i : Exchange) (r : List ℕ) (number : ℕ)
+    → IsOpenBody s table h m g → IsExchange s table i → h ≡ i.heads → m ++ x ≡ i.sent ++ r
+    → IsPrefix (written_so_far s.job (response_of s table h) g) (written_whole s.job number (response_of s table i.heads) i.body)
 grows_by_item s table h m g x i r number sending item heads e =
     let f = h.response.frame in
     let front : IsFront f i.sent i.body = subst (λ k. IsFront k.response.frame i.sent i.body) (sym heads) item.front in
@@ -115,20 +115,20 @@ grows_by_item s table h m g x i r number sending item heads e =
       | inl k ↦
           let longer = longer_front f m k.more g i.body sending.front (subst (λ l. IsFront f l i.body) k.front front) in
           let P : List ℕ → Heads → Type 0 =
-          λ c j. IsPrefix (written_front s.job (exchange_of s table h) g) (written_whole s.job number (exchange_of s table j) c) in
-          subst (P i.body) heads (subst (λ c. P c h) (sym longer.1) (written_front-whole s.job number (exchange_of s table h) g longer.0))
+          λ c j. IsPrefix (written_so_far s.job (response_of s table h) g) (written_whole s.job number (response_of s table j) c) in
+          subst (P i.body) heads (subst (λ c. P c h) (sym longer.1) (written_so_far-whole s.job number (response_of s table h) g longer.0))
       | inr k ↦
           absurd (reached_not_sending s table h i.sent k.more m i.body g (inl whole) front sending (sym k.front))
     ]
 
 longer_written : (s : Settings) (table : States) (h k : Heads) (m more g c : List ℕ) → h ≡ k
     → IsFront h.response.frame m g → IsFront h.response.frame (m ++ more) c
-    → IsPrefix (written_front s.job (exchange_of s table h) g) (written_front s.job (exchange_of s table k) c)
+    → IsPrefix (written_so_far s.job (response_of s table h) g) (written_so_far s.job (response_of s table k) c)
 longer_written s table h k m more g c heads x y =
     let longer = longer_front h.response.frame m more g c x y in
     let P : List ℕ → Heads → Type 0 =
-    λ d j. IsPrefix (written_front s.job (exchange_of s table h) g) (written_front s.job (exchange_of s table j) d) in
-    subst (P c) heads (subst (λ d. P d h) (sym longer.1) (written_front-grows s.job (exchange_of s table h) g longer.0))
+    λ d j. IsPrefix (written_so_far s.job (response_of s table h) g) (written_so_far s.job (response_of s table j) d) in
+    subst (P c) heads (subst (λ d. P d h) (sym longer.1) (written_so_far-grows s.job (response_of s table h) g longer.0))
 
 undecided_rule : (s : Settings) (table : States) (h : Heads) (m g : List ℕ) → IsUndecided s table h m g
     → window_rule_of (judged_by s table h) g ≡ None
@@ -136,13 +136,13 @@ undecided_rule s table h m g x =
     elim (x.undecided) [ inl text ↦ text-rule (judged_by s table h) g text | inr whole ↦ whole.1 ]
 
 grows_by_tail : (s : Settings) (table : States) (h : Heads) (m g x : List ℕ) (u : Tail) (others : List ℕ) (number : ℕ)
-    → IsSending s table h m g → IsTail s table u → (is_open u ≡ true → others ≡ [])
+    → IsOpenBody s table h m g → IsTail s table u → (is_open u ≡ true → others ≡ [])
     → Asked h.request (h.response.bytes ++ (m ++ x)) ≡ ask_of u others → Answered h.response (m ++ x) ≡ answer_of u others
-    → IsPrefix (written_front s.job (exchange_of s table h) g) (written_tail s table number false u)
-grows_by_tail s table h m g x (cut.Sending k n c) others number sending y end a b =
+    → IsPrefix (written_so_far s.job (response_of s table h) g) (written_tail s table number false u)
+grows_by_tail s table h m g x (cut.InBody k n c) others number sending y end a b =
     let f = h.response.frame in
     let p = same_heads h k _ _ (m ++ x) (n ++ others) a b in
-    let moves : IsSending s table h n c = moved (λ j. IsSending s table j n c) h k p.0 y in
+    let moves : IsOpenBody s table h n c = moved (λ j. IsOpenBody s table j n c) h k p.0 y in
     longer_written s table h k m x g c p.0 sending.front
     (subst (λ l. IsFront f l c) (sym (p.1 ∙ alone n others (end refl))) moves.front)
 grows_by_tail s table h m g x (cut.BadBody k n c d) others number sending y end a b =
@@ -158,7 +158,7 @@ grows_by_tail s table h m g x (cut.Undecided k n c) others number sending y end 
     elim (one_goes_on m x n others p.1) [
       | inl w ↦
           let longer = longer_front f m w.more g c sending.front (subst (λ l. IsFront f l c) w.front moves.front) in
-          subst (λ l. IsPrefix l []) (sym (written_front-undecided s.job (exchange_of s table h) g longer.0
+          subst (λ l. IsPrefix l []) (sym (written_so_far-undecided s.job (response_of s table h) g longer.0
           (ap (window_rule_of (judged_by s table h)) (sym longer.1) ∙ undecided_rule s table h n c moves))) (IsPrefix-none [])
       | inr w ↦
           absurd (reached_not_sending s table h n w.more m c g (undecided_reached s table h n c moves) moves.front sending (sym w.front))
@@ -171,10 +171,10 @@ pub tail_grows : (s : Settings) (table : States) (t : Tail) (more x : List ℕ) 
     → IsTail s table t → (is_open t ≡ true → more ≡ []) → IsTail s table u → (is_open u ≡ true → others ≡ [])
     → spell_tail t more ++ x ≡ spell_tail u others
     → IsPrefix (written_tail s table number false t) (written_tail s table count false u)
-tail_grows s table (cut.Sending h m g) more x u others number count sending last y end e =
+tail_grows s table (cut.InBody h m g) more x u others number count sending last y end e =
     let a = Asked h.request (h.response.bytes ++ (m ++ (more ++ x))) in
     let c = Answered h.response (m ++ (more ++ x)) in
-    let is : spell_heads h (m ++ (more ++ x)) ≡ spell_tail u others = sym (spell_tail-append (cut.Sending h m g) more x) ∙ e in
+    let is : spell_heads h (m ++ (more ++ x)) ≡ spell_tail u others = sym (spell_tail-append (cut.InBody h m g) more x) ∙ e in
     let start = one_start table (spell_heads h (m ++ (more ++ x))) a (ask_of u others) c (answer_of u others)
     (start_of_heads table h (m ++ (more ++ x)) sending.heads)
     (subst (λ l. IsStart table l (ask_of u others) (answer_of u others)) (sym is) (start_of_tail s table u others y end)) in
@@ -183,10 +183,10 @@ tail_grows s table (cut.BadBody h m g d) more x u others number count bad last y
     let shut : is_open (cut.BadBody h m g d) ≡ true → more ++ x ≡ [] = λ o. absurd (false≢true o) in
     let alike = same_tails s table (cut.BadBody h m g d) (more ++ x) u others bad y shut end
     (sym (spell_tail-append (cut.BadBody h m g d) more x) ∙ e) in
-    subst (λ l. IsPrefix (written_front s.job (exchange_of s table h) g) l) (alike.written table count false)
-    (IsPrefix-all (written_front s.job (exchange_of s table h) g))
-tail_grows s table (cut.Asking head) more x u others number count t last y end e = IsPrefix-none _
-tail_grows s table (cut.Answering r head) more x u others number count t last y end e = IsPrefix-none _
+    subst (λ l. IsPrefix (written_so_far s.job (response_of s table h) g) l) (alike.written table count false)
+    (IsPrefix-all (written_so_far s.job (response_of s table h) g))
+tail_grows s table (cut.InRequestHead head) more x u others number count t last y end e = IsPrefix-none _
+tail_grows s table (cut.InResponseHead r head) more x u others number count t last y end e = IsPrefix-none _
 tail_grows s table (cut.LongRequest head) more x u others number count t last y end e = IsPrefix-none _
 tail_grows s table (cut.BadRequest head kind) more x u others number count t last y end e = IsPrefix-none _
 tail_grows s table (cut.FullTable r) more x u others number count t last y end e = IsPrefix-none _
@@ -194,15 +194,15 @@ tail_grows s table (cut.LongResponse r head) more x u others number count t last
 tail_grows s table (cut.BadResponse r head kind) more x u others number count t last y end e = IsPrefix-none _
 tail_grows s table (cut.Undecided h m g) more x u others number count t last y end e = IsPrefix-none _
 
-pub item_grows : (s : Settings) (table : States) (t : Tail) (more x : List ℕ) (i : Item) (r : List ℕ) (number count : ℕ)
-    → IsTail s table t → (is_open t ≡ true → more ≡ []) → IsItem s table i → spell_tail t more ++ x ≡ spell_item i r
-    → IsPrefix (written_tail s table number false t) (written_whole s.job count (exchange_of s table i.heads) i.body)
-item_grows s table (cut.Sending h m g) more x i r number count sending last y e =
+pub item_grows : (s : Settings) (table : States) (t : Tail) (more x : List ℕ) (i : Exchange) (r : List ℕ) (number count : ℕ)
+    → IsTail s table t → (is_open t ≡ true → more ≡ []) → IsExchange s table i → spell_tail t more ++ x ≡ spell_exchange i r
+    → IsPrefix (written_tail s table number false t) (written_whole s.job count (response_of s table i.heads) i.body)
+item_grows s table (cut.InBody h m g) more x i r number count sending last y e =
     let a = Asked h.request (h.response.bytes ++ (m ++ (more ++ x))) in
     let c = Answered h.response (m ++ (more ++ x)) in
     let b = Asked i.heads.request (i.heads.response.bytes ++ (i.sent ++ r)) in
     let d = Answered i.heads.response (i.sent ++ r) in
-    let is : spell_heads h (m ++ (more ++ x)) ≡ spell_item i r = sym (spell_tail-append (cut.Sending h m g) more x) ∙ e in
+    let is : spell_heads h (m ++ (more ++ x)) ≡ spell_exchange i r = sym (spell_tail-append (cut.InBody h m g) more x) ∙ e in
     let start = one_start table (spell_heads h (m ++ (more ++ x))) a b c d
     (start_of_heads table h (m ++ (more ++ x)) sending.heads)
     (subst (λ l. IsStart table l b d) (sym is) (start_of_item s table i r y)) in
@@ -212,8 +212,8 @@ item_grows s table (cut.BadBody h m g d) more x i r number count bad last y e =
     let shut : is_open (cut.BadBody h m g d) ≡ true → more ++ x ≡ [] = λ o. absurd (false≢true o) in
     absurd (item_not_tail s table i r (cut.BadBody h m g d) (more ++ x) y bad shut
     (sym e ∙ spell_tail-append (cut.BadBody h m g d) more x))
-item_grows s table (cut.Asking head) more x i r number count t last y e = IsPrefix-none _
-item_grows s table (cut.Answering q head) more x i r number count t last y e = IsPrefix-none _
+item_grows s table (cut.InRequestHead head) more x i r number count t last y e = IsPrefix-none _
+item_grows s table (cut.InResponseHead q head) more x i r number count t last y e = IsPrefix-none _
 item_grows s table (cut.LongRequest head) more x i r number count t last y e = IsPrefix-none _
 item_grows s table (cut.BadRequest head kind) more x i r number count t last y e = IsPrefix-none _
 item_grows s table (cut.FullTable q) more x i r number count t last y e = IsPrefix-none _

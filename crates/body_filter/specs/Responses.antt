@@ -5,11 +5,11 @@ use Rattle.response_rules.specs.Rules.{is_allowing}
 use Rattle.response_rules.specs.Heads.{Head}
 use Rattle.response_rules.specs.Tables.{window_rule_of}
 use Rattle.response_rules.specs.Settled.{is_sent, is_hopeless, is_in_text}
-use Rattle.body_filter.specs.Chunks.{chunk_size, body_front, body_whole}
+use Rattle.body_filter.specs.Chunks.{chunk_size, body_so_far, whole_body}
 use Rattle.body_filter.specs.Reply.{reply_of}
 
 -- a response whose body comes
-pub record Exchange : Type 0 where
+pub record Response : Type 0 where
   -- what it is judged by
   pub head : Head
   -- its head, as it was read
@@ -18,33 +18,33 @@ pub record Exchange : Type 0 where
   pub chunked : Bool
 
 -- the response with that head
-abbrev pub exchange_of : Head → (bytes : List ℕ) → (chunked : Bool) → Exchange
-exchange_of head bytes chunked = record { head = head; bytes = bytes; chunked = chunked }
+abbrev pub response_of : Head → (bytes : List ℕ) → (chunked : Bool) → Response
+response_of head bytes chunked = record { head = head; bytes = bytes; chunked = chunked }
 
 -- what goes out when these bytes of the body have come: the head and they, once a rule that allows is
 -- settled, and nothing before
-unfoldable pub front_of : Exchange → List ℕ → List ℕ
-front_of x m = if is_sent x.head m then x.bytes ++ body_front x.chunked m else []
+unfoldable pub output_so_far : Response → List ℕ → List ℕ
+output_so_far x m = if is_sent x.head m then x.bytes ++ body_so_far x.chunked m else []
 
 -- what goes out of a whole exchange that the rule decides
-abbrev pub decided_by : Exchange → List ℕ → Rule → List ℕ
-decided_by x m rule = if is_allowing rule then x.bytes ++ body_whole x.chunked m else reply_of rule
+abbrev pub decided_by : Response → List ℕ → Rule → List ℕ
+decided_by x m rule = if is_allowing rule then x.bytes ++ whole_body x.chunked m else reply_of rule
 
 -- the same, where no rule need decide: nothing goes out then
-abbrev pub decided : Exchange → List ℕ → Option Rule → List ℕ
+abbrev pub decided : Response → List ℕ → Option Rule → List ℕ
 decided x m None = []
 decided x m (Some rule) = decided_by x m rule
 
 -- what goes out of a whole exchange with that body
-unfoldable pub whole_of : Exchange → List ℕ → List ℕ
-whole_of x m = decided x m (window_rule_of x.head m)
+unfoldable pub whole_output : Response → List ℕ → List ℕ
+whole_output x m = decided x m (window_rule_of x.head m)
 
 -- the response can't be allowed any more: it is hopeless, or it is read as text and is longer than the limit
 unfoldable pub is_given_up : Head → List ℕ → Bool
 is_given_up h m = is_hopeless h m || (is_in_text h m && nat_lt h.limit (length m))
 
 -- how many bytes of the body are kept back
-unfoldable pub held_of : Exchange → List ℕ → ℕ
+unfoldable pub held_of : Response → List ℕ → ℕ
 held_of x m =
     if is_sent x.head m then (if x.chunked then length m % chunk_size else 0)
     else if is_given_up x.head m then 0
