@@ -10,7 +10,7 @@ use Rattle.response_rules.specs.Tables.{window_size, window_rule_of}
 use Rattle.response_rules.specs.Settled.{is_full, is_sent, is_hopeless, is_in_text}
 use Rattle.response_rules.proofs.TableLemmas.{rule_is_computed}
 use Rattle.response_rules.proofs.SettledLemmas.{settled-full, settled-whole, hopeless-longer, hopeless-unsent, hopeless-blocks, open-short}
-use Rattle.body_filter.specs.Chunks.{chunk_size, body_so_far}
+use Rattle.http_exchange.specs.Chunks.{chunk_size, body_so_far}
 use Rattle.body_filter.specs.Responses.{Response, output_so_far, is_given_up, held_of}
 
 -- nothing, or the head and the body

@@ -5,7 +5,7 @@ use Rattle.response_rules.specs.Heads.{Head}
 use Rattle.response_rules.specs.Tables.{window_size}
 use Rattle.response_rules.specs.Settled.{is_sent, is_hopeless, is_in_text}
 use Rattle.response_rules.proofs.SettledLemmas.{open-short}
-use Rattle.body_filter.specs.Chunks.{chunk_size}
+use Rattle.http_exchange.specs.Chunks.{chunk_size}
 use Rattle.body_filter.specs.Responses.{Response, is_given_up, held_of}
 use Rattle.body_filter.proofs.FilterLemmas.{held-holding, held-passing, held-dropping, given_up-hopeless}
 

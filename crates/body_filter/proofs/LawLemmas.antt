@@ -9,14 +9,14 @@ use Rattle.response_rules.specs.Rules.{is_allowing}
 use Rattle.response_rules.specs.Tables.{window_rule_of}
 use Rattle.response_rules.specs.Settled.{is_sent}
 use Rattle.response_rules.proofs.SettledLemmas.{sent-longer, sent-allows}
-use Rattle.body_filter.specs.Chunks.{chunk_size, crlf, chunk, full_chunks, count_full, rest_of, rest_chunk, last_chunk, body_so_far, whole_body, kept_of}
-use Rattle.body_filter.specs.Writes.{put_of, end_of}
+use Rattle.http_exchange.specs.Chunks.{chunk_size, crlf, chunk, full_chunks, count_full, rest_of, rest_chunk, last_chunk, body_so_far, whole_body, kept_of}
+use Rattle.http_exchange.specs.Framing.{put_of, end_of}
 use Rattle.body_filter.specs.Reply.{reply_of}
 use Rattle.body_filter.specs.Responses.{Response, output_so_far, whole_output, decided, decided_by}
 use Rattle.orb_bytes.proofs.HexadecimalLemmas.{three_at_most}
 use Rattle.body_filter.proofs.ReplyLemmas.{reply-short}
-use Rattle.body_filter.proofs.ChunkLemmas.{full_fits, rest-length, rest-short}
-use Rattle.body_filter.proofs.WriteLemmas.{front-on, whole-is}
+use Rattle.http_exchange.proofs.ChunkLemmas.{full_fits, rest-length, rest-short}
+use Rattle.http_exchange.proofs.FramingLaws.{front-on, whole-is}
 use Rattle.body_filter.proofs.FilterLemmas.{so_far-unsent, so_far-sent}
 
 -- a body that goes out, and a longer one

@@ -1,6 +1,3 @@
-pub mod ChunkLemmas
-pub mod CutLemmas
-pub mod WriteLemmas
 pub mod ReplyLemmas
 pub mod FilterLemmas
 pub mod HeldLemmas

@@ -9,12 +9,13 @@ use Rattle.response_rules.proofs.SettledLemmas.{sent-allows}
 use Rattle.body_filter.specs.declared.filtering.Filter.{Filter}
 use Rattle.body_filter.specs.declared.phases.Phase.{Phase}
 use Rattle.body_filter.specs.declared.phases.Phase.TheVariants as phase
-use Rattle.body_filter.specs.Chunks.{body_so_far, kept_of}
-use Rattle.body_filter.specs.Writes.{put_of, kept_after, end_of}
+use Rattle.http_exchange.specs.Chunks.{body_so_far, kept_of}
+use Rattle.http_exchange.specs.Framing.{put_of, kept_after, end_of}
+use Rattle.http_exchange.specs.Framers.{is_chunked_by, kept_by}
 use Rattle.body_filter.specs.Reply.{reply_of}
 use Rattle.body_filter.specs.Responses.{Response, output_so_far, whole_output}
 use Rattle.body_filter.specs.Reads.{Stands, ended_by}
-use Rattle.body_filter.proofs.WriteLemmas.{front-on, kept-on, front-none, released, released-kept, held-whole, whole-is}
+use Rattle.http_exchange.proofs.FramingLaws.{front-on, kept-on, front-none, released, released-kept, held-whole, whole-is}
 use Rattle.body_filter.proofs.FilterLemmas.{so_far-unsent, so_far-sent, given_up-unsent, given_up-blocks}
 use Rattle.body_filter.proofs.LawLemmas.{whole-allowed, whole-blocked}
 
@@ -76,18 +77,18 @@ ends_held x m v chunked rest head held is none same all verdict = by v.allow (sy
     by false blocks = sym (whole-blocked x m v.rule verdict.rule blocks)
 
 pub ended-is : (p : Phase) (f g : Filter) (x : Response) (m : List ℕ) (v : Verdict) → Stands p f x m
-    → IsVerdict x.head m v → g.writer ≡ f.writer → g.head ≡ f.head → g.held ≡ f.held
+    → IsVerdict x.head m v → g.framer ≡ f.framer → g.head ≡ f.head → g.held ≡ f.held
     → output_so_far x m ++ ended_by p g v ≡ whole_output x m
-ended-is phase.Idle f g x m v stands verdict writer head held = absurd stands
-ended-is phase.Holding f g x m v stands verdict writer head held =
+ended-is phase.Idle f g x m v stands verdict framer head held = absurd stands
+ended-is phase.Holding f g x m v stands verdict framer head held =
     rw (so_far-unsent x m stands.unsent)
-    (ends_held x m v g.writer.chunked g.writer.rest.items g.head.items g.held.items
-    (ap (λ w. w.chunked) writer ∙ stands.chunked) (ap (λ w. w.rest.items) writer ∙ stands.rest)
+    (ends_held x m v (is_chunked_by g.framer) (kept_by g.framer) g.head.items g.held.items
+    (ap is_chunked_by framer ∙ stands.chunked) (ap kept_by framer ∙ stands.rest)
     (ap (λ t. t.items) head ∙ stands.head) (ap (λ t. t.items) held ∙ stands.held) verdict)
-ended-is phase.Passing f g x m v stands verdict writer head held =
-    ends_sent x m v g.writer.chunked g.writer.rest.items
-    (ap (λ w. w.chunked) writer ∙ stands.chunked) (ap (λ w. w.rest.items) writer ∙ stands.rest)
+ended-is phase.Passing f g x m v stands verdict framer head held =
+    ends_sent x m v (is_chunked_by g.framer) (kept_by g.framer)
+    (ap is_chunked_by framer ∙ stands.chunked) (ap kept_by framer ∙ stands.rest)
     stands.sent verdict
-ended-is phase.Dropping f g x m v stands verdict writer head held =
+ended-is phase.Dropping f g x m v stands verdict framer head held =
     rw (so_far-unsent x m (given_up-unsent x.head m stands.over))
     (sym (whole-blocked x m v.rule verdict.rule (given_up-blocks x.head m v.rule stands.over verdict.rule)))

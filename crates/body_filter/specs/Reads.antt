@@ -9,10 +9,11 @@ use Rattle.response_rules.specs.Reads.{HasRead as DeciderHasRead}
 use Rattle.body_filter.specs.declared.filtering.Filter.{Filter}
 use Rattle.body_filter.specs.declared.phases.Phase.{Phase}
 use Rattle.body_filter.specs.declared.phases.Phase.TheVariants as phase
-use Rattle.body_filter.specs.Chunks.{kept_of}
+use Rattle.http_exchange.specs.Chunks.{kept_of}
 use Rattle.body_filter.specs.Responses.{Response, is_given_up}
+use Rattle.http_exchange.specs.Framers.{is_chunked_by, kept_by}
 use Rattle.body_filter.specs.Reply.{reply_of}
-use Rattle.body_filter.specs.Writes.{put_of, kept_after, end_of}
+use Rattle.http_exchange.specs.Framing.{put_of, kept_after, end_of}
 use Rattle.body_filter.specs.Judged.{Decides}
 
 -- how many bytes of a body it holds back at most
@@ -22,7 +23,7 @@ limit_of f = f.limit
 abbrev pub held_by : Phase → Filter → ℕ
 held_by phase.Idle f = 0
 held_by phase.Holding f = length f.held.items
-held_by phase.Passing f = length f.writer.rest.items
+held_by phase.Passing f = length (kept_by f.framer)
 held_by phase.Dropping f = 0
 
 -- how many it holds back now
@@ -35,14 +36,14 @@ pub record Holds (f : Filter) (x : Response) (m : List ℕ) : Type 0 where
   pub hopeful : is_given_up x.head m ≡ false
   pub head : f.head.items ≡ x.bytes
   pub held : f.held.items ≡ m
-  pub chunked : f.writer.chunked ≡ x.chunked
-  pub rest : f.writer.rest.items ≡ []
+  pub chunked : is_chunked_by f.framer ≡ x.chunked
+  pub rest : kept_by f.framer ≡ []
 
 -- the body goes out as it comes
 pub record PassesOn (f : Filter) (x : Response) (m : List ℕ) : Type 0 where
   pub sent : is_sent x.head m ≡ true
-  pub chunked : f.writer.chunked ≡ x.chunked
-  pub rest : f.writer.rest.items ≡ kept_of x.chunked m
+  pub chunked : is_chunked_by f.framer ≡ x.chunked
+  pub rest : kept_by f.framer ≡ kept_of x.chunked m
 
 -- no byte of it will
 pub record Drops (x : Response) (m : List ℕ) : Type 0 where
@@ -89,8 +90,8 @@ abbrev pub ended_by : Phase → Filter → Verdict → List ℕ
 ended_by phase.Idle f verdict = reply_of verdict.rule
 ended_by phase.Holding f verdict =
     if verdict.allow
-    then f.head.items ++ (put_of f.writer.chunked f.writer.rest.items f.held.items
-    ++ end_of f.writer.chunked (kept_after f.writer.chunked f.writer.rest.items f.held.items))
+    then f.head.items ++ (put_of (is_chunked_by f.framer) (kept_by f.framer) f.held.items
+    ++ end_of (is_chunked_by f.framer) (kept_after (is_chunked_by f.framer) (kept_by f.framer) f.held.items))
     else reply_of verdict.rule
-ended_by phase.Passing f verdict = end_of f.writer.chunked f.writer.rest.items
+ended_by phase.Passing f verdict = end_of (is_chunked_by f.framer) (kept_by f.framer)
 ended_by phase.Dropping f verdict = reply_of verdict.rule

@@ -5,7 +5,7 @@ use Rattle.response_rules.specs.Rules.{is_allowing}
 use Rattle.response_rules.specs.Heads.{Head}
 use Rattle.response_rules.specs.Tables.{window_rule_of}
 use Rattle.response_rules.specs.Settled.{is_sent, is_hopeless, is_in_text}
-use Rattle.body_filter.specs.Chunks.{chunk_size, body_so_far, whole_body}
+use Rattle.http_exchange.specs.Chunks.{chunk_size, body_so_far, whole_body}
 use Rattle.body_filter.specs.Reply.{reply_of}
 
 -- a response whose body comes

@@ -5,7 +5,8 @@ use crate::judging::{Judgement, finish, judge, read_on, within};
 use crate::phases::{Phase, idle_at_fault};
 use crate::pushing::{WriteFault, put_bytes};
 use crate::replying::put_reply;
-use crate::writing::{BodyWriter, put_whole, release};
+use crate::writing::{put_last, put_piece, put_whole, release};
+use http_exchange::Framer;
 use orb_bytes::append;
 use orb_io::{NoMemory, Sink};
 use response_rules::{Decider, Rule, Verdict};
@@ -21,7 +22,7 @@ pub struct Filter {
     phase: Phase,
     // The one of the response that comes.
     decider: Option<Decider>,
-    writer: BodyWriter,
+    framer: Framer,
     head: Vec<u8>,
     held: Vec<u8>,
     ghost window: { 1024 ≤ limit },
@@ -59,7 +60,7 @@ impl Filter {
             limit,
             phase: Phase::Idle,
             decider: None,
-            writer: BodyWriter::new(),
+            framer: Framer::new(),
             head,
             held,
         })
@@ -89,7 +90,7 @@ impl Filter {
     {
         let judgement = judge(&decider);
         self.decider = Some(decider);
-        self.writer.start(chunked);
+        self.framer.start(chunked);
         match judgement {
             Judgement::Allowed => {
                 self.phase = Phase::Passing;
@@ -159,7 +160,7 @@ impl Filter {
     {
         match self.phase {
             Phase::Holding => self.held.len(),
-            Phase::Passing => self.writer.kept(),
+            Phase::Passing => self.framer.kept(),
             Phase::Dropping | Phase::Idle => 0,
         }
     }
@@ -199,7 +200,7 @@ impl Filter {
         match judgement {
             Judgement::Allowed => {
                 self.phase = Phase::Passing;
-                let put = release(&mut self.writer, &self.head, &self.held, piece, sink);
+                let put = release(&mut self.framer, &self.head, &self.held, piece, sink);
                 idle_at_fault(&mut self.phase, put)
             }
             Judgement::Blocked => {
@@ -225,7 +226,7 @@ impl Filter {
         ensures limit { limit_of self.new ≡ limit_of self.old }
     {
         let _judgement = read_on(&mut self.decider, piece);
-        let put = self.writer.put(piece, sink);
+        let put = put_piece(&mut self.framer, piece, sink);
         idle_at_fault(&mut self.phase, put)
     }
 
@@ -235,10 +236,10 @@ impl Filter {
         ensures limit { limit_of self.new ≡ limit_of self.old }
     {
         match self.phase {
-            Phase::Passing => self.writer.finish(sink),
+            Phase::Passing => put_last(&mut self.framer, sink),
             Phase::Holding => {
                 if verdict.allow {
-                    put_whole(&mut self.writer, &self.head, &self.held, sink)
+                    put_whole(&mut self.framer, &self.head, &self.held, sink)
                 } else {
                     put_reply(verdict.rule, sink)
                 }

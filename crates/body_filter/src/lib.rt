@@ -4,7 +4,7 @@
 //! that allows is known, the head, what was held and all that follows go out at once; once the response
 //! is given up, nothing is held any more, and at the end a reply with status 403 stands in its place.
 //! `specs/Responses` says what goes out of a response, whole or not, and how much is held. A body that
-//! came in chunks goes out in chunks of 1,024 bytes (`specs/Chunks`). No call after [`Filter::open`] takes
+//! came in chunks goes out in chunks of 1,024 bytes (`http_exchange::Framer`). No call after [`Filter::open`] takes
 //! memory.
 #![tactic(auto)]
 

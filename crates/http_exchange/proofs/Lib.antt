@@ -7,3 +7,6 @@ pub mod PieceLemmas
 pub mod UnframerLemmas
 pub mod HeadSpans
 pub mod GatherLemmas
+pub mod ChunkLemmas
+pub mod FramingLaws
+pub mod FramingLemmas

@@ -14,3 +14,6 @@ pub mod ResponseFields
 pub mod Reading
 pub mod HeadTexts
 pub mod Gathering
+pub mod Chunks
+pub mod Framing
+pub mod Framers

@@ -8,11 +8,13 @@
 //! A [`HeadReader`] gathers a head from pieces up to its limit (`specs/Gathering`).
 //!
 //! `specs/Frames` says which bytes are a body, and which of them are content; of chunked bodies
-//! `specs/Chunked` has the grammar. An [`Unframer`] reads a body in pieces, cut anywhere.
+//! `specs/Chunked` has the grammar. An [`Unframer`] reads a body in pieces, cut anywhere, and a
+//! [`Framer`] puts one into a sink (`specs/Framing`): one that is chunked in chunks of 1,024 bytes (`specs/Chunks`).
 #![tactic(auto)]
 
 mod ends;
 mod frames;
+mod framing;
 mod gathering;
 mod pieces;
 mod places;
@@ -28,6 +30,7 @@ mod values;
 
 pub use ends::head_end;
 pub use frames::BodyFrame;
+pub use framing::Framer;
 pub use gathering::{HeadReader, HeadTaken};
 pub use pieces::Taken;
 pub use refusals::BadKind;

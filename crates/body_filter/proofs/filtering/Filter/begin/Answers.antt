@@ -3,7 +3,7 @@ use Rattle.std.proofs.lemmas.Result.{on_ok_weaker}
 use Rattle.orb_io.proofs.GivesLemmas.{Gives-none, Delivers-put}
 use Rattle.response_rules.specs.Settled.{is_sent}
 use Rattle.body_filter.specs.Responses.{response_of, output_so_far}
-use Rattle.body_filter.proofs.WriteLemmas.{kept-none}
+use Rattle.http_exchange.proofs.FramingLaws.{kept-none}
 use Rattle.body_filter.proofs.FilterLemmas.{so_far-unsent}
 use Rattle.body_filter.proofs.OwedLemmas.{first-sent}
 use Rattle.body_filter.proofs.PhaseLemmas.{reads-holding, reads-passing, reads-dropping, made-limit, judged-allowed, judged-blocked, judged-open, given_up-first}

@@ -1,6 +1,7 @@
 use Rattle.std.proofs.Common.{◌≡◌, ◌++◌, length, true, refl, sym, ap, ◌∙◌, arith}
 use Rattle.orb_io.proofs.GivesLemmas.{Gives-none, Delivers-put}
 use Rattle.response_rules.specs.Settled.{is_sent}
+use Rattle.http_exchange.specs.Framers.{is_chunked_by, kept_by}
 use Rattle.body_filter.specs.Responses.{output_so_far}
 use Rattle.body_filter.proofs.FilterLemmas.{so_far-unsent, given_up-fits}
 use Rattle.body_filter.proofs.OwedLemmas.{release-is, release-kept}
@@ -14,12 +15,12 @@ returns-in-Allowed-clause-delivers g c = λ x m r.
     let s = holds-of f x m c.requires.holding r in
     let sent : is_sent x.head (m ++ p) ≡ true =
     judged-allowed _ _ (c.in-Allowed.ensures _ _ (c.read_on.ensures.gives x.head m r.decides)) in
-    let w = f.writer in
+    let w = f.framer in
     let head = c.deref.result.now in
     let held = c.deref-in-Allowed.result.now in
     Delivers-put _ _ c.idle_at_fault.result (output_so_far x m) _ (output_so_far x (m ++ p)) _
     (rw c.idle_at_fault.ensures.same c.release-put.ensures.puts.bytes)
-    (release-is x m p w.chunked w.rest.items head held s.chunked s.rest (c.deref.ensures.value ∙ s.head)
+    (release-is x m p (is_chunked_by w) (kept_by w) head held s.chunked s.rest (c.deref.ensures.value ∙ s.head)
     (c.deref-in-Allowed.ensures.value ∙ s.held) s.unsent sent)
     (on_ok-both c.idle_at_fault.result c.idle_at_fault.ensures.ok (rw c.idle_at_fault.ensures.same c.release-put.ensures.rest)
     (λ same rest.
@@ -27,7 +28,7 @@ returns-in-Allowed-clause-delivers g c = λ x m r.
     (record {
       sent = sent;
       chunked = c.release-put.ensures.chunked ∙ s.chunked;
-      rest = rest ∙ release-kept x m p w.chunked w.rest.items held s.chunked s.rest (c.deref-in-Allowed.ensures.value ∙ s.held);
+      rest = rest ∙ release-kept x m p (is_chunked_by w) (kept_by w) held s.chunked s.rest (c.deref-in-Allowed.ensures.value ∙ s.held);
     })))
 
 pub returns-in-Blocked-clause-delivers : goal.returns-in-Blocked-clause-delivers

@@ -1,6 +1,6 @@
 use Rattle.std.proofs.Common.{inl, inr, length, refl, sym, ap, ◌∙◌}
 use Rattle.body_filter.specs.Reads.{held_in}
-use Rattle.body_filter.proofs.WriteLemmas.{kept-length}
+use Rattle.http_exchange.proofs.FramingLaws.{kept-length}
 use Rattle.body_filter.proofs.FilterLemmas.{held-holding, held-passing, held-dropping}
 use Rattle.body_filter.proofs.PhaseLemmas.{holds-of, passes-of, drops-of, idle-spent}
 use Rattle.body_filter.proofs.filtering.Filter.held.Goals as goal

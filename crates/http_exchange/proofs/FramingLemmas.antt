@@ -4,9 +4,9 @@ use Rattle.std.proofs.lemmas.List.{append-nil, take-append-drop}
 use Rattle.orb_io.specs.Told.{Told, Agrees, Gains, GainsPrefix, Gives, IsPrefix}
 use Rattle.orb_io.proofs.ToldLemmas.{GainsPrefix-after, GainsPrefix-longer}
 use Rattle.orb_io.proofs.GivesLemmas.{Gives-none, Gives-of, Gives-then}
-use Rattle.body_filter.specs.Chunks.{chunk, full_chunks, count_full, rest_of}
-use Rattle.body_filter.specs.Writes.{Gathers}
-use Rattle.body_filter.proofs.ChunkLemmas.{chunks-on, rest-on, chunks-one, rest-none, chunks-short, rest-whole}
+use Rattle.http_exchange.specs.Chunks.{chunk, full_chunks, count_full, rest_of}
+use Rattle.http_exchange.specs.Framing.{Gathers}
+use Rattle.http_exchange.proofs.ChunkLemmas.{chunks-on, rest-on, chunks-one, rest-none, chunks-short, rest-whole}
 
 -- the chunks that a body fills
 abbrev pub chunks_of : List ℕ → List ℕ

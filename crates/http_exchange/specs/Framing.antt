@@ -1,6 +1,6 @@
 -- What goes out piece by piece of a body, where the bytes before it that fill no chunk were kept.
 use Rattle.std.specs.Prelude.{◌≡◌, ℕ, Bool, List, [], ◌++◌, if◌then◌else◌}
-use Rattle.body_filter.specs.Chunks.{full_chunks, count_full, rest_of, rest_chunk, last_chunk}
+use Rattle.http_exchange.specs.Chunks.{full_chunks, count_full, rest_of, rest_chunk, last_chunk}
 
 -- what goes out of a piece, after the bytes that were kept
 unfoldable pub put_of : (chunked : Bool) → (kept : List ℕ) → List ℕ → List ℕ

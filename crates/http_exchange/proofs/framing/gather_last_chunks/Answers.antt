@@ -1,5 +1,5 @@
-use Rattle.body_filter.proofs.ChunkLemmas.{chunk-last}
-use Rattle.body_filter.proofs.writing.gather_last_chunks.Goals as goal
+use Rattle.http_exchange.proofs.ChunkLemmas.{chunk-last}
+use Rattle.http_exchange.proofs.framing.gather_last_chunks.Goals as goal
 
 pub returns : goal.returns
 returns c =

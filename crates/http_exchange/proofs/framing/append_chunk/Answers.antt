@@ -1,5 +1,5 @@
-use Rattle.body_filter.proofs.ChunkLemmas.{chunk-after}
-use Rattle.body_filter.proofs.writing.append_chunk.Goals as goal
+use Rattle.http_exchange.proofs.ChunkLemmas.{chunk-after}
+use Rattle.http_exchange.proofs.framing.append_chunk.Goals as goal
 
 pub returns : goal.returns
 returns c =

@@ -1,6 +1,6 @@
 use Rattle.std.proofs.Common.{◌≡◌, ◌<◌, [], length}
-use Rattle.body_filter.proofs.CutLemmas.{Cut}
-use Rattle.body_filter.proofs.writing.put_chunks.Given as goal
+use Rattle.http_exchange.proofs.FramingLemmas.{Cut}
+use Rattle.http_exchange.proofs.framing.put_chunks.Given as goal
 
 abbrev pub invariant-batches : goal.invariant-batches
 invariant-batches g l = record {

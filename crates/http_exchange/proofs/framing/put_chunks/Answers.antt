@@ -1,8 +1,8 @@
 use Rattle.std.proofs.Common.{refl, ◌∙◌, arith}
 use Rattle.std.proofs.lemmas.Result.{err_from_is_err_and}
 use Rattle.orb_io.proofs.CallLemmas.{HasCause-after}
-use Rattle.body_filter.proofs.CutLemmas.{gathers-shorter, cut-first, cut-more, cut-fault, cut-last, cut-rest}
-use Rattle.body_filter.proofs.writing.put_chunks.Goals as goal
+use Rattle.http_exchange.proofs.FramingLemmas.{gathers-shorter, cut-first, cut-more, cut-fault, cut-last, cut-rest}
+use Rattle.http_exchange.proofs.framing.put_chunks.Goals as goal
 
 pub batches-init : goal.batches-init
 batches-init g c = record {

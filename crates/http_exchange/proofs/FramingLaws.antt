@@ -1,9 +1,9 @@
 -- What goes out of a body, piece by piece.
-use Rattle.std.proofs.Common.{◌≡◌, ℕ, ◌%◌, Bool, true, false, List, [], ◌++◌, length, if◌then◌else◌, refl, sym, ap, ◌∙◌, arith}
+use Rattle.std.proofs.Common.{◌≡◌, ℕ, ◌%◌, Bool, true, false, List, [], ◌++◌, length, if◌then◌else◌, Result, Ok, Err, OnOk, refl, sym, ap, ◌∙◌, arith}
 use Rattle.std.proofs.lemmas.List.{append-nil}
-use Rattle.body_filter.specs.Chunks.{chunk_size, body_so_far, whole_body, kept_of}
-use Rattle.body_filter.specs.Writes.{put_of, kept_after, end_of}
-use Rattle.body_filter.proofs.ChunkLemmas.{chunks-on, rest-on, rest-length, chunks-short, rest-whole}
+use Rattle.http_exchange.specs.Chunks.{chunk_size, body_so_far, whole_body, kept_of}
+use Rattle.http_exchange.specs.Framing.{put_of, kept_after, end_of}
+use Rattle.http_exchange.proofs.ChunkLemmas.{chunks-on, rest-on, rest-length, chunks-short, rest-whole}
 
 pub front-on : (chunked : Bool) (m p : List ℕ)
     → body_so_far chunked (m ++ p) ≡ body_so_far chunked m ++ put_of chunked (kept_of chunked m) p
@@ -70,3 +70,8 @@ held-whole chunked m =
     ap (λ t. t ++ end_of chunked (kept_after chunked [] m)) (put-first chunked m)
     ∙ (ap (λ t. body_so_far chunked m ++ end_of chunked t) (kept-first chunked m)
     ∙ sym (whole-is chunked m))
+
+-- a fact that holds whatever a call answers
+pub on_ok : {T E P : Type 0} (r : Result T E) → P → OnOk r P
+on_ok (Ok done) p = p
+on_ok (Err failed) p = tt

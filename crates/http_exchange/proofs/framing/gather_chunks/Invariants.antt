@@ -1,6 +1,6 @@
 use Rattle.std.proofs.Common.{◌≡◌, ◌+◌, ◌<◌, ◌≤◌, length}
-use Rattle.body_filter.specs.Writes.{Gathers}
-use Rattle.body_filter.proofs.writing.gather_chunks.Given as goal
+use Rattle.http_exchange.specs.Framing.{Gathers}
+use Rattle.http_exchange.proofs.framing.gather_chunks.Given as goal
 
 abbrev pub invariant-chunks : goal.invariant-chunks
 invariant-chunks l = record {

@@ -1,6 +1,6 @@
 use Rattle.orb_io.proofs.CallLemmas.{Puts-none}
-use Rattle.body_filter.specs.Writes.{end_of}
-use Rattle.body_filter.proofs.writing.BodyWriter.finish.Goals as goal
+use Rattle.http_exchange.specs.Framing.{end_of}
+use Rattle.http_exchange.proofs.framing.Framer.finish.Goals as goal
 
 pub returns-then-self-clause-puts : goal.returns-then-self-clause-puts
 unfolding end_of

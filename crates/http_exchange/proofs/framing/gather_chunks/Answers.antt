@@ -1,8 +1,8 @@
 use Rattle.std.proofs.Common.{◌≡◌, ◌+◌, ◌-◌, ◌++◌, length, take, refl, ap, arith, length-append}
-use Rattle.body_filter.specs.Chunks.{chunk}
-use Rattle.body_filter.proofs.ChunkLemmas.{chunk-some}
-use Rattle.body_filter.proofs.CutLemmas.{gathers-none, gathers-one, gathers-more}
-use Rattle.body_filter.proofs.writing.gather_chunks.Goals as goal
+use Rattle.http_exchange.specs.Chunks.{chunk}
+use Rattle.http_exchange.proofs.ChunkLemmas.{chunk-some}
+use Rattle.http_exchange.proofs.FramingLemmas.{gathers-none, gathers-one, gathers-more}
+use Rattle.http_exchange.proofs.framing.gather_chunks.Goals as goal
 
 pub chunks-init : goal.chunks-init
 chunks-init c = record {
