@@ -1,5 +1,5 @@
 -- How much of a body was read, and what a fault in it leaves.
-use Rattle.std.proofs.Common.{◌≡◌, ◌⊎◌, ℕ, zero, suc, ◌+◌, ◌≤◌, Bool, true, false, List, [], ◌∷◌, ◌++◌, length, Option, None, Some, refl, sym, ap, subst, ◌∙◌, inl, inr, arith, append_assoc}
+use Rattle.std.proofs.Common.{Result, ◌≡◌, ◌⊎◌, ℕ, zero, suc, ◌+◌, ◌≤◌, Bool, true, false, List, [], ◌∷◌, ◌++◌, length, Option, None, Some, refl, sym, ap, subst, ◌∙◌, inl, inr, arith, append_assoc}
 use Rattle.std.specs.FinMap as map
 use Rattle.std.proofs.lemmas.List.{append-nil}
 use Rattle.std.proofs.lemmas.Bool.{false≢true}
@@ -25,7 +25,8 @@ use Rattle.orb_engine.specs.Heads.{Heads, AreHeads, response_of, judged_by}
 use Rattle.orb_engine.specs.Recording as cut
 use Rattle.orb_engine.specs.Recording.{Exchange, Recording, AreExchanges, IsRecording, spell_heads, spell_exchanges}
 use Rattle.orb_engine.specs.Outputs.{output_of, written_exchanges, written_so_far}
-use Rattle.orb_engine.specs.Reads.{open_cut, table_of, IsTold, Breaks}
+use Rattle.orb_engine.specs.declared.outcome.EngineOutcome.{EngineOutcome}
+use Rattle.orb_engine.specs.Reads.{open_cut, table_of, IsTold, Breaks, HaltCause, Causes}
 use Rattle.orb_engine.proofs.CutLemmas.{spell_exchanges-snoc, exchanges-snoc}
 use Rattle.orb_engine.proofs.OutputLaws.{written_so_far-undecided}
 use Rattle.orb_engine.proofs.BodyLaws.{text-rule}
@@ -159,3 +160,10 @@ breaks-body e s m given more exchanges wrote told within seen = record {
     whole = IsPrefix-trans _ given _ told.whole (IsPrefix-append given more);
   };
 }
+
+-- the cause of what stopped a step, after a call that found no fault
+pub HaltCause-after : (o : EngineOutcome) (a b c : ℕ) → b ≡ a → HaltCause o b c → HaltCause o a c
+HaltCause-after o a b c is cause = subst (λ (n : ℕ). HaltCause o n c) is cause
+
+pub Causes-after : {T : Type 0} (r : Result T EngineOutcome) (a b c : ℕ) → b ≡ a → Causes r b c → Causes r a c
+Causes-after r a b c is cause = subst (λ (n : ℕ). Causes r n c) is cause

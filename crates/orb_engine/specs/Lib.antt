@@ -11,6 +11,7 @@ pub mod Writing
 pub mod WorkerLaws
 pub mod Progress
 pub mod Reads
+pub mod Steps
 pub mod Closing
 pub mod Runs
 pub mod Complete

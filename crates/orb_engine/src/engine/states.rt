@@ -91,19 +91,17 @@ impl Engine {
     ghost use Rattle.http_exchange.specs.HeadTexts.{IsHeadText};
     ghost use Rattle.orb_engine.specs.declared.settings.Settings.{Settings};
     ghost use Rattle.orb_engine.specs.Reads.{Reads, Halts, HaltCause, Steps, Settles, Causes, HasRequest, HasResponse, HasHead, HasReadHeads, FillsAt, Coming, IsInHead, IsInBody, head_offset_of};
+    ghost use Rattle.orb_engine.specs.Steps.{Meets, Goes};
     ghost use Rattle.orb_engine.specs.Closing.{IsClosing, Closes, ClosesDecided, coming_rule};
     ghost use Rattle.orb_engine.specs.Runs.{settings_of};
 
     /// Takes the first bytes of a piece, by the state.
     fn step<O: Sink>(&mut self, piece: &[u8], output: &mut O) -> Result<usize, EngineOutcome>
-        requires can { (s : Settings) × (m : List ℕ) × (given : List ℕ) × Reads self.old s m given }
+        requires can { Meets (Reads self.old) }
         requires few { self.old.progress.taken + length piece.now ≤ 2 ^ 62 }
-        ensures steps { (s : Settings) (m given : List ℕ) → Reads self.old s m given
-            → Gives (O.told output.old) (O.told output.new) given (Steps result self.new s m piece.now) }
+        ensures goes { Goes O.Sink result output.old output.new
+            (Reads self.old) (λ s m. Steps result self.new s m piece.now) }
         ensures moves { 1 ≤ length piece.now → IfOk result (λ used. 1 ≤ used) }
-        ensures causes { Causes result (O.faults output.old) (O.faults output.new) }
-        ensures keeps { O.kept output.old output.new }
-        ensures taken { IfOk result (λ used. self.new.progress.taken ≡ self.old.progress.taken + used) }
         ensures settings { self.new.writer.settings ≡ self.old.writer.settings }
     {
         match &self.state {
@@ -119,13 +117,10 @@ impl Engine {
         piece: &[u8],
         output: &mut O,
     ) -> Result<(), EngineOutcome>
-        requires can { (s : Settings) × (m : List ℕ) × (given : List ℕ) × Reads self.old s m given }
+        requires can { Meets (Reads self.old) }
         requires few { self.old.progress.taken + length piece.now ≤ 2 ^ 62 }
-        ensures settles { (s : Settings) (m given : List ℕ) → Reads self.old s m given
-            → Gives (O.told output.old) (O.told output.new) given (Settles result self.new s (m ++ piece.now)) }
-        ensures causes { Causes result (O.faults output.old) (O.faults output.new) }
-        ensures keeps { O.kept output.old output.new }
-        ensures taken { OnOk result (self.new.progress.taken ≡ self.old.progress.taken + length piece.now) }
+        ensures goes { Goes O.Sink result output.old output.new
+            (Reads self.old) (λ s m. Settles result self.new s (m ++ piece.now)) }
         ensures settings { self.new.writer.settings ≡ self.old.writer.settings }
     {
         let mut rest = piece;
@@ -140,15 +135,12 @@ impl Engine {
 
     /// Takes the bytes of the head that comes.
     fn take_head<O: Sink>(&mut self, piece: &[u8], output: &mut O) -> Result<usize, EngineOutcome>
-        requires can { (s : Settings) × (m : List ℕ) × (given : List ℕ) × Reads self.old s m given }
+        requires can { Meets (Reads self.old) }
         requires head { IsInHead self.old.state }
         requires few { self.old.progress.taken + length piece.now ≤ 2 ^ 62 }
-        ensures steps { (s : Settings) (m given : List ℕ) → Reads self.old s m given
-            → Gives (O.told output.old) (O.told output.new) given (Steps result self.new s m piece.now) }
+        ensures goes { Goes O.Sink result output.old output.new
+            (Reads self.old) (λ s m. Steps result self.new s m piece.now) }
         ensures moves { 1 ≤ length piece.now → IfOk result (λ used. 1 ≤ used) }
-        ensures causes { Causes result (O.faults output.old) (O.faults output.new) }
-        ensures keeps { O.kept output.old output.new }
-        ensures taken { IfOk result (λ used. self.new.progress.taken ≡ self.old.progress.taken + used) }
         ensures settings { self.new.writer.settings ≡ self.old.writer.settings }
     {
         match self.head.take(piece) {
@@ -181,14 +173,10 @@ impl Engine {
 
     /// Reads the head that has come.
     fn read_head<O: Sink>(&mut self, output: &mut O) -> Result<(), EngineOutcome>
-        requires can { (s : Settings) × (m : List ℕ) × (given : List ℕ)
-            × HasHead IsHeadText self.old.state self.old s m given }
+        requires can { Meets (HasHead IsHeadText self.old.state self.old) }
         requires few { self.old.progress.taken ≤ 2 ^ 62 }
-        ensures settles { (s : Settings) (m given : List ℕ) → HasHead IsHeadText self.old.state self.old s m given
-            → Gives (O.told output.old) (O.told output.new) given (Settles result self.new s m) }
-        ensures causes { Causes result (O.faults output.old) (O.faults output.new) }
-        ensures keeps { O.kept output.old output.new }
-        ensures taken { self.new.progress.taken ≡ self.old.progress.taken }
+        ensures goes { Goes O.Sink result output.old output.new
+            (HasHead IsHeadText self.old.state self.old) (Settles result self.new) }
         ensures settings { self.new.writer.settings ≡ self.old.writer.settings }
     {
         match &self.state {
@@ -203,12 +191,10 @@ impl Engine {
 
     /// Reads the request head that has come.
     fn read_request(&mut self) -> Result<(), EngineOutcome>
-        requires can { (s : Settings) × (m : List ℕ) × (given : List ℕ)
-            × HasRequest IsHeadText self.old s m given }
+        requires can { Meets (HasRequest IsHeadText self.old) }
         ensures settles { (s : Settings) (m given : List ℕ) → HasRequest IsHeadText self.old s m given
             → Settles result self.new s m given }
         ensures no_faults { (n : ℕ) → Causes result n n }
-        ensures taken { self.new.progress.taken ≡ self.old.progress.taken }
         ensures settings { self.new.writer.settings ≡ self.old.writer.settings }
     {
         let asks = match self.head.request() {
@@ -238,14 +224,10 @@ impl Engine {
 
     /// Reads the response head that has come.
     fn read_response<O: Sink>(&mut self, asked: Asked, output: &mut O) -> Result<(), EngineOutcome>
-        requires can { (s : Settings) × (m : List ℕ) × (given : List ℕ)
-            × HasResponse IsHeadText asked self.old s m given }
+        requires can { Meets (HasResponse IsHeadText asked self.old) }
         requires few { self.old.progress.taken ≤ 2 ^ 62 }
-        ensures settles { (s : Settings) (m given : List ℕ) → HasResponse IsHeadText asked self.old s m given
-            → Gives (O.told output.old) (O.told output.new) given (Settles result self.new s m) }
-        ensures causes { Causes result (O.faults output.old) (O.faults output.new) }
-        ensures keeps { O.kept output.old output.new }
-        ensures taken { self.new.progress.taken ≡ self.old.progress.taken }
+        ensures goes { Goes O.Sink result output.old output.new
+            (HasResponse IsHeadText asked self.old) (Settles result self.new) }
         ensures settings { self.new.writer.settings ≡ self.old.writer.settings }
     {
         match self.head.response(asked, self.writer.settings) {
@@ -265,14 +247,10 @@ impl Engine {
         frame: BodyFrame,
         output: &mut O,
     ) -> Result<(), EngineOutcome>
-        requires can { (s : Settings) × (m : List ℕ) × (given : List ℕ)
-            × HasReadHeads asked (decider, frame) self.old s m given }
+        requires can { Meets (HasReadHeads asked (decider, frame) self.old) }
         requires few { self.old.progress.taken ≤ 2 ^ 62 }
-        ensures settles { (s : Settings) (m given : List ℕ) → HasReadHeads asked (decider, frame) self.old s m given
-            → Gives (O.told output.old) (O.told output.new) given (Settles result self.new s m) }
-        ensures causes { Causes result (O.faults output.old) (O.faults output.new) }
-        ensures keeps { O.kept output.old output.new }
-        ensures taken { self.new.progress.taken ≡ self.old.progress.taken }
+        ensures goes { Goes O.Sink result output.old output.new
+            (HasReadHeads asked (decider, frame) self.old) (Settles result self.new) }
         ensures settings { self.new.writer.settings ≡ self.old.writer.settings }
     {
         let chunked = is_chunked(frame);
@@ -295,15 +273,12 @@ impl Engine {
 
     /// Takes the bytes of a body.
     fn take_body<O: Sink>(&mut self, piece: &[u8], output: &mut O) -> Result<usize, EngineOutcome>
-        requires can { (s : Settings) × (m : List ℕ) × (given : List ℕ) × Reads self.old s m given }
+        requires can { Meets (Reads self.old) }
         requires body { IsInBody self.old.state }
         requires few { self.old.progress.taken + length piece.now ≤ 2 ^ 62 }
-        ensures steps { (s : Settings) (m given : List ℕ) → Reads self.old s m given
-            → Gives (O.told output.old) (O.told output.new) given (Steps result self.new s m piece.now) }
+        ensures goes { Goes O.Sink result output.old output.new
+            (Reads self.old) (λ s m. Steps result self.new s m piece.now) }
         ensures moves { 1 ≤ length piece.now → IfOk result (λ used. 1 ≤ used) }
-        ensures causes { Causes result (O.faults output.old) (O.faults output.new) }
-        ensures keeps { O.kept output.old output.new }
-        ensures taken { IfOk result (λ used. self.new.progress.taken ≡ self.old.progress.taken + used) }
         ensures settings { self.new.writer.settings ≡ self.old.writer.settings }
     {
         match self.state.unframe(piece) {
@@ -326,14 +301,10 @@ impl Engine {
 
     /// Closes the exchange where its body is whole, and stops where nothing that is built decides it.
     fn settle_body<O: Sink>(&mut self, output: &mut O) -> Result<(), EngineOutcome>
-        requires can { (s : Settings) × (m : List ℕ) × (given : List ℕ)
-            × FillsAt self.old.state self.old s m given }
+        requires can { Meets (FillsAt self.old.state self.old) }
         requires few { self.old.progress.taken ≤ 2 ^ 62 }
-        ensures settles { (s : Settings) (m given : List ℕ) → FillsAt self.old.state self.old s m given
-            → Gives (O.told output.old) (O.told output.new) given (Settles result self.new s m) }
-        ensures causes { Causes result (O.faults output.old) (O.faults output.new) }
-        ensures keeps { O.kept output.old output.new }
-        ensures taken { self.new.progress.taken ≡ self.old.progress.taken }
+        ensures goes { Goes O.Sink result output.old output.new
+            (FillsAt self.old.state self.old) (Settles result self.new) }
         ensures settings { self.new.writer.settings ≡ self.old.writer.settings }
     {
         let State::Body(incoming) = &self.state else {
@@ -404,7 +375,7 @@ impl Engine {
 
     /// How the recording ends where no more comes.
     pub(crate) fn finish<O: Sink>(&mut self, output: &mut O) -> EngineOutcome
-        requires can { (s : Settings) × (m : List ℕ) × (given : List ℕ) × Reads self.old s m given }
+        requires can { Meets (Reads self.old) }
         requires few { self.old.progress.taken ≤ 2 ^ 62 }
         ensures halts { (s : Settings) (m given : List ℕ) → Reads self.old s m given
             → Gives (O.told output.old) (O.told output.new) given (Halts result self.new s m true) }

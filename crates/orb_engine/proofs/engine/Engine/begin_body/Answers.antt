@@ -5,6 +5,7 @@ use Rattle.orb_io.proofs.GivesLemmas.{Gives-weaker, Gives-then}
 use Rattle.orb_engine.specs.Heads.{judged_by}
 use Rattle.orb_engine.specs.Reads.{table_of}
 use Rattle.orb_engine.proofs.BeginLemmas.{begun, same-exchange, begun-fills, begun-breaks}
+use Rattle.orb_engine.proofs.StepLemmas.{Causes-after}
 use Rattle.orb_engine.proofs.engine.Engine.begin_body.Goals as goal
 
 pub settle_body-requires-clause-can : goal.settle_body-requires-clause-can
@@ -23,26 +24,34 @@ settle_body-requires-clause-can g c =
           x passed.holds.0 passed.holds.1 c.new.ensures c.is_to_end.ensures c.id_of.ensures refl,
     )
 
-pub returns-in-Ok-clause-settles : goal.returns-in-Ok-clause-settles
-returns-in-Ok-clause-settles g c = λ s m given q.
-    let read : Decider × BodyFrame = (c.args.decider, c.args.frame) in
-    let h = (begun c.args.asked read c.args.self.now s m given q).heads in
-    let x = same-exchange c.args.asked read c.args.self.now s m given q c.as_slice.result.now c.is_chunked-chunked.result
-    c.as_slice.ensures.value c.is_chunked-chunked.ensures in
-    Gives-then _ _ _ given _ _ (c.in-Ok.ensures.passes s (judged_by s (table_of q.whole.exchanges) h) given q.whole.writer q.new)
-    (λ more passed. c.settle_body.ensures.settles s m (given ++ more)
-    (begun-fills _ c.args.asked read c.args.self.now _ s m given more q _
-    (record { media = refl; offset = refl; taken = refl; counts = refl; told = refl; settings = c.in-Ok.ensures.settings })
-    x passed.0 passed.1 c.new.ensures c.is_to_end.ensures c.id_of.ensures refl))
+pub returns-in-Ok-clause-goes : goal.returns-in-Ok-clause-goes
+returns-in-Ok-clause-goes g c = record {
+  gives = λ s m given q.
+      let read : Decider × BodyFrame = (c.args.decider, c.args.frame) in
+      let h = (begun c.args.asked read c.args.self.now s m given q).heads in
+      let x = same-exchange c.args.asked read c.args.self.now s m given q c.as_slice.result.now c.is_chunked-chunked.result
+      c.as_slice.ensures.value c.is_chunked-chunked.ensures in
+      Gives-then _ _ _ given _ _ (c.in-Ok.ensures.passes s (judged_by s (table_of q.whole.exchanges) h) given q.whole.writer q.new)
+      (λ more passed. c.settle_body.ensures.goes.gives s m (given ++ more)
+      (begun-fills _ c.args.asked read c.args.self.now _ s m given more q _
+      (record { media = refl; offset = refl; taken = refl; counts = refl; told = refl; settings = c.in-Ok.ensures.settings })
+      x passed.0 passed.1 c.new.ensures c.is_to_end.ensures c.id_of.ensures refl));
+  causes = Causes-after c.settle_body.result _ _ _ c.in-Ok.ensures.calls.cause c.settle_body.ensures.goes.causes;
+  keeps = g.met.O.Sink.kept_transitive _ _ _ c.in-Ok.ensures.calls.keeps c.settle_body.ensures.goes.keeps;
+}
 
-pub returns-in-Err-clause-settles : goal.returns-in-Err-clause-settles
-returns-in-Err-clause-settles g c = λ s m given q.
-    let read : Decider × BodyFrame = (c.args.decider, c.args.frame) in
-    let h = (begun c.args.asked read c.args.self.now s m given q).heads in
-    let x = same-exchange c.args.asked read c.args.self.now s m given q c.as_slice.result.now c.is_chunked-chunked.result
-    c.as_slice.ensures.value c.is_chunked-chunked.ensures in
-    Gives-weaker _ _ given _ _ (λ more within.
-    begun-breaks c.args.asked read c.args.self.now _ s m given more q _
-    (record { media = refl; offset = refl; taken = refl; counts = refl; told = refl; settings = c.in-Err.ensures.settings })
-    x within)
-    (c.in-Err.ensures.passes s (judged_by s (table_of q.whole.exchanges) h) given q.whole.writer q.new)
+pub returns-in-Err-clause-goes : goal.returns-in-Err-clause-goes
+returns-in-Err-clause-goes g c = record {
+  gives = λ s m given q.
+      let read : Decider × BodyFrame = (c.args.decider, c.args.frame) in
+      let h = (begun c.args.asked read c.args.self.now s m given q).heads in
+      let x = same-exchange c.args.asked read c.args.self.now s m given q c.as_slice.result.now c.is_chunked-chunked.result
+      c.as_slice.ensures.value c.is_chunked-chunked.ensures in
+      Gives-weaker _ _ given _ _ (λ more within.
+      begun-breaks c.args.asked read c.args.self.now _ s m given more q _
+      (record { media = refl; offset = refl; taken = refl; counts = refl; told = refl; settings = c.in-Err.ensures.settings })
+      x within)
+      (c.in-Err.ensures.passes s (judged_by s (table_of q.whole.exchanges) h) given q.whole.writer q.new);
+  causes = c.in-Err.ensures.calls.cause;
+  keeps = c.in-Err.ensures.calls.keeps;
+}

@@ -13,13 +13,21 @@ begin_body-requires-clause-can g c =
           (record { media = refl; offset = refl; counts = refl; told = refl; writer = refl }) c.response.ensures.same refl c.in-Ok.ensures.reads,
     )
 
-pub returns-in-Ok-clause-settles : goal.returns-in-Ok-clause-settles
-returns-in-Ok-clause-settles g c = λ s m given h.
-    c.begin_body.ensures.settles s m given (response-good c.args.asked (c.in-Ok.decider, c.in-Ok.frame) c.args.self.now _ s m given h
-    (record { media = refl; offset = refl; counts = refl; told = refl; writer = refl }) c.response.ensures.same refl c.in-Ok.ensures.reads)
+pub returns-in-Ok-clause-goes : goal.returns-in-Ok-clause-goes
+returns-in-Ok-clause-goes g c = record {
+  gives = λ s m given h.
+      c.begin_body.ensures.goes.gives s m given (response-good c.args.asked (c.in-Ok.decider, c.in-Ok.frame) c.args.self.now _ s m given h
+      (record { media = refl; offset = refl; counts = refl; told = refl; writer = refl }) c.response.ensures.same refl c.in-Ok.ensures.reads);
+  causes = c.begin_body.ensures.goes.causes;
+  keeps = c.begin_body.ensures.goes.keeps;
+}
 
-pub returns-in-Err-clause-settles : goal.returns-in-Err-clause-settles
-returns-in-Err-clause-settles g c = λ s m given h.
-    Gives-none _ given _ (g.met.O.Sink.told_agrees c.args.output.now)
-    (response-bad c.args.asked c.args.self.now _ s m given c.in-Err.kind h
-    (record { media = refl; offset = refl; counts = refl; told = refl; writer = refl }) c.in-Err.ensures.reads)
+pub returns-in-Err-clause-goes : goal.returns-in-Err-clause-goes
+returns-in-Err-clause-goes g c = record {
+  gives = λ s m given h.
+      Gives-none _ given _ (g.met.O.Sink.told_agrees c.args.output.now)
+      (response-bad c.args.asked c.args.self.now _ s m given c.in-Err.kind h
+      (record { media = refl; offset = refl; counts = refl; told = refl; writer = refl }) c.in-Err.ensures.reads);
+  causes = refl;
+  keeps = g.met.O.Sink.kept_reflexive c.args.output.now;
+}

@@ -1,4 +1,4 @@
-use Rattle.std.proofs.Common.{◌++◌, sym, inl, ◌∙◌}
+use Rattle.std.proofs.Common.{◌++◌, refl, sym, inl, ◌∙◌}
 use Rattle.std.proofs.lemmas.Bool.{false≢true}
 use Rattle.orb_io.proofs.GivesLemmas.{Gives-none, Gives-weaker}
 use Rattle.orb_engine.specs.Reads.{coming_response}
@@ -6,25 +6,33 @@ use Rattle.orb_engine.proofs.BodyLaws.{text-rule}
 use Rattle.orb_engine.proofs.FillLemmas.{at-filled, few-exchanges, undecided-stops, goes-on, settled}
 use Rattle.orb_engine.proofs.engine.Engine.settle_body.Goals as goal
 
-pub returns-then-is_undecided-clause-settles : goal.returns-then-is_undecided-clause-settles
-returns-then-is_undecided-clause-settles g c = λ s m given h.
-    let f = at-filled c.args.self.now.state c.in-Body.incoming c.args.self.now s m given c.in-Body.is h in
-    let x = coming_response s f.coming in
-    let text = sym (c.is_undecided.ensures s x f.coming.body f.receives.writer) ∙ c.if-is_undecided.true in
-    Gives-none _ given _ (g.met.O.Sink.told_agrees c.args.output.now)
-    (undecided-stops c.in-Body.incoming c.args.self.now _ s m given given f
-    (record { none = text-rule x.head f.coming.body text; gave = f.gave; common = f.common })
-    (record { heads = f.good; front = f.front; undecided = inl text }))
+pub returns-then-is_undecided-clause-goes : goal.returns-then-is_undecided-clause-goes
+returns-then-is_undecided-clause-goes g c = record {
+  gives = λ s m given h.
+      let f = at-filled c.args.self.now.state c.in-Body.incoming c.args.self.now s m given c.in-Body.is h in
+      let x = coming_response s f.coming in
+      let text = sym (c.is_undecided.ensures s x f.coming.body f.receives.writer) ∙ c.if-is_undecided.true in
+      Gives-none _ given _ (g.met.O.Sink.told_agrees c.args.output.now)
+      (undecided-stops c.in-Body.incoming c.args.self.now _ s m given given f
+      (record { none = text-rule x.head f.coming.body text; gave = f.gave; common = f.common })
+      (record { heads = f.good; front = f.front; undecided = inl text }));
+  causes = refl;
+  keeps = g.met.O.Sink.kept_reflexive c.args.output.now;
+}
 
-pub returns-then-not-is_whole-clause-settles : goal.returns-then-not-is_whole-clause-settles
-returns-then-not-is_whole-clause-settles g c = λ s m given h.
-    let f = at-filled c.args.self.now.state c.in-Body.incoming c.args.self.now s m given c.in-Body.is h in
-    let x = coming_response s f.coming in
-    let open_ = sym (c.is_undecided.ensures s x f.coming.body f.receives.writer) ∙ c.if-is_undecided.false in
-    let whole = c.is_whole.ensures.whole f.coming.heads.response.frame f.coming.sent f.coming.body f.receives.unframer in
-    Gives-none _ given _ (g.met.O.Sink.told_agrees c.args.output.now)
-    (goes-on c.in-Body.incoming _ s m given f c.in-Body.is
-    (λ is. false≢true (sym c.if-not-is_whole.true ∙ whole.1 is)) open_)
+pub returns-then-not-is_whole-clause-goes : goal.returns-then-not-is_whole-clause-goes
+returns-then-not-is_whole-clause-goes g c = record {
+  gives = λ s m given h.
+      let f = at-filled c.args.self.now.state c.in-Body.incoming c.args.self.now s m given c.in-Body.is h in
+      let x = coming_response s f.coming in
+      let open_ = sym (c.is_undecided.ensures s x f.coming.body f.receives.writer) ∙ c.if-is_undecided.false in
+      let whole = c.is_whole.ensures.whole f.coming.heads.response.frame f.coming.sent f.coming.body f.receives.unframer in
+      Gives-none _ given _ (g.met.O.Sink.told_agrees c.args.output.now)
+      (goes-on c.in-Body.incoming _ s m given f c.in-Body.is
+      (λ is. false≢true (sym c.if-not-is_whole.true ∙ whole.1 is)) open_);
+  causes = refl;
+  keeps = g.met.O.Sink.kept_reflexive c.args.output.now;
+}
 
 pub close-requires-clause-few : goal.close-requires-clause-few
 close-requires-clause-few g c =
@@ -48,17 +56,21 @@ close-requires-clause-can g c =
       },
     )
 
-pub returns-clause-settles : goal.returns-clause-settles
-returns-clause-settles g c = λ s m given h.
-    let f = at-filled c.args.self.now.state c.in-Body.incoming c.args.self.now s m given c.in-Body.is h in
-    let whole = c.is_whole.ensures.whole f.coming.heads.response.frame f.coming.sent f.coming.body f.receives.unframer in
-    Gives-weaker _ _ given _ _ (λ more closes.
-    settled c.close.result c.in-Body.incoming c.args.self.now c.close.new.self s m given (given ++ more) f
-    (whole.0 c.if-not-is_whole.false) closes c.close.ensures.taken)
-    (c.close.ensures.closes s f.coming given (record {
-      common = f.common;
-      gave = f.gave;
-      writer = f.receives.writer;
-      media = f.receives.media;
-      id_is = f.receives.id;
-    }))
+pub returns-clause-goes : goal.returns-clause-goes
+returns-clause-goes g c = record {
+  gives = λ s m given h.
+      let f = at-filled c.args.self.now.state c.in-Body.incoming c.args.self.now s m given c.in-Body.is h in
+      let whole = c.is_whole.ensures.whole f.coming.heads.response.frame f.coming.sent f.coming.body f.receives.unframer in
+      Gives-weaker _ _ given _ _ (λ more closes.
+      settled c.close.result c.in-Body.incoming c.args.self.now c.close.new.self s m given (given ++ more) f
+      (whole.0 c.if-not-is_whole.false) closes c.close.ensures.taken)
+      (c.close.ensures.closes s f.coming given (record {
+        common = f.common;
+        gave = f.gave;
+        writer = f.receives.writer;
+        media = f.receives.media;
+        id_is = f.receives.id;
+      }));
+  causes = c.close.ensures.causes;
+  keeps = c.close.ensures.keeps;
+}
