@@ -6,7 +6,8 @@ use Rattle.es5_lexer.specs.Strings.{quote_of, IsStringRest}
 use Rattle.es5_lexer.specs.Tokens.{is_barred}
 use Rattle.es5_lexer.specs.Begins.{IsFront, is_open_escape, EndsInEscape, Begins}
 use Rattle.es5_lexer.specs.Suits.{is_div}
-use Rattle.es5_lexer.specs.Texts.{Mark, mark, chars, read_by, ended_in, LexesFrom}
+use Rattle.es5_lexer.specs.Texts.{Mark, mark, chars, read_by, ended_in}
+use Rattle.es5_lexer.specs.Cuts.{Cut, cut, CutsFrom, lexemes_of}
 use Rattle.es5_lexer.specs.Places.{set_of, behind, is_dot, longer, first, behind_slash, behind_mark, mark as punct_of, next, next_by, next_in_parts, next_in_escape, ended, is_dead}
 use Rattle.es5_lexer.specs.Rests.{with_seen, Rest}
 use Rattle.es5_lexer.specs.Reading.{token_of}
@@ -37,6 +38,7 @@ use Rattle.es5_lexer.specs.declared.places.Left.TheVariants.{One, Two, Three, Fo
 use Rattle.es5_lexer.specs.declared.places.PatternPlace.TheVariants.{BodyStart, Body, BodyEscape, Class, ClassEscape, Flags}
 use Rattle.es5_lexer.specs.declared.states.State.{State}
 use Rattle.es5_lexer.specs.declared.states.State.TheVariants.{Start, Slash, LineComment, BlockComment, Token}
+use Rattle.es5_lexer.proofs.CutLemmas.{going, coming}
 use Rattle.es5_lexer.proofs.Choices.{split, then_in, else_in, is_same, never, and_left, and_right, and_both, not_true, true_not}
 use Rattle.es5_lexer.proofs.ClassLemmas.{slash}
 use Rattle.es5_lexer.proofs.PlaceLemmas.{comes, ended_rest}
@@ -48,7 +50,7 @@ use Rattle.es5_lexer.proofs.SlashLemmas.{first_slash, token_begins, last_token, 
 use Rattle.es5_lexer.proofs.EscapeSteps.{Continues, next_seen, Takes, on, behind_it, opens, start_backslash, place_backslash, as_within, line_backslash, start_dollar, part_dollar, mark_dollar}
 
 -- nothing goes on from a dead state
-pub dead_state : (s : State) (read : List ℕ) (f : Bool) (w : List Mark) (end : Goal) (tokens : List Lexeme) → is_dead_state s ≡ true → From s read f w end tokens → ⊥
+pub dead_state : (s : State) (read : List ℕ) (f : Bool) (w : List Mark) (end : Goal) (tokens : List Cut) → is_dead_state s ≡ true → From s read f w end tokens → ⊥
 dead_state (Token p) read f w end tokens e h = dead_from p read f w end tokens e h
 dead_state Start read f w end tokens e h = absurd cc
 dead_state Slash read f w end tokens e h = absurd cc
@@ -80,7 +82,7 @@ snoc_same {A} (c ∷ v) (d ∷ w) x y e =
 
 -- a backslash where a `$` would go on
 
-takes_of : (p : Place) (read : List ℕ) (f : Bool) (g : Goal) (w : List Mark) (end : Goal) (tokens : List Lexeme) → TokenFrom p read f (mark g 36 ∷ w) end tokens → Takes p 36
+takes_of : (p : Place) (read : List ℕ) (f : Bool) (g : Goal) (w : List Mark) (end : Goal) (tokens : List Cut) → TokenFrom p read f (mark g 36 ∷ w) end tokens → Takes p 36
 takes_of p read f g w end tokens h =
     elim (way p read f g 36 w end tokens h) [
       | inl t ↦ on t.kind (chars t.before) (comes p t.kind 36 (chars t.before) t.completes)
@@ -95,7 +97,7 @@ slash_backslash r c None Start e h l = place_backslash (behind_slash r) r c None
 slash_backslash r c None Slash e h l = place_backslash (behind_slash r) r c None Slash e (opens (behind_slash r) h) l
 slash_backslash r c None (Token q) e h l = place_backslash (behind_slash r) r c None (Token q) e (opens (behind_slash r) h) l
 
-pub backslash_step : (s : State) (read : List ℕ) (f : Bool) (r : Goal) (c : ℕ) (k : Option Kind) (t : State) (w : List Mark) (end : Goal) (tokens : List Lexeme) → From s (own s read) f (mark r 36 ∷ w) end tokens → c ≡ 92 → Leads s r c k t → Within EscapeMark t
+pub backslash_step : (s : State) (read : List ℕ) (f : Bool) (r : Goal) (c : ℕ) (k : Option Kind) (t : State) (w : List Mark) (end : Goal) (tokens : List Cut) → From s (own s read) f (mark r 36 ∷ w) end tokens → c ≡ 92 → Leads s r c k t → Within EscapeMark t
 backslash_step Start read f r c None t w end tokens h e l = start_backslash r c t e l
 backslash_step Start read f r c (Some k) t w end tokens h e l = absurd l
 backslash_step Slash read f r c k t w end tokens h e l =
@@ -338,12 +340,12 @@ first_escape g c host later e =
 first_dollar : (g : Goal) (c : ℕ) → c ≡ 36 → first g c ≡ Name
 first_dollar g c e = then_in (λ (x : Place). x ≡ Name) (is_start c) _ _ (ap is_start e ∙ start_dollar) refl
 
-dollar_lexes : (f : Bool) (g : Goal) (c : ℕ) → c ≡ 36 → (tokens : List Lexeme) × LexesFrom f (mark g c ∷ []) g tokens
+dollar_lexes : (f : Bool) (g : Goal) (c : ℕ) → c ≡ 36 → (tokens : List Cut) × CutsFrom f (mark g c ∷ []) g tokens
 dollar_lexes f g c e =
-    (_, token_first f g c [] g _ (subst (λ (x : Place). TokenFrom x (c ∷ []) f [] g (record { token = token_of AName (c ∷ []); newline = f } ∷ [])) (sym (first_dollar g c e)) ((last_token Name (c ∷ []) f g AName refl).comes refl)))
+    (_, token_first f g c [] g _ (subst (λ (x : Place). TokenFrom x (c ∷ []) f [] g (cut (token_of AName (c ∷ [])) f [] ∷ [])) (sym (first_dollar g c e)) ((last_token Name (c ∷ []) f g AName refl).comes refl)))
 
 -- behind a whole token
-ends_dollar : (p : Place) (read : List ℕ) (f : Bool) (g : Goal) (k : Kind) → ended p ≡ Some k → is_dead (next p 36) ≡ true → is_barred (token_of k (onto read [])) 36 ≡ false → (tokens : List Lexeme) × TokenFrom p read f (mark g 36 ∷ []) g tokens
+ends_dollar : (p : Place) (read : List ℕ) (f : Bool) (g : Goal) (k : Kind) → ended p ≡ Some k → is_dead (next p 36) ≡ true → is_barred (token_of k (onto read [])) 36 ≡ false → (tokens : List Cut) × TokenFrom p read f (mark g 36 ∷ []) g tokens
 ends_dollar p read f g k e dead free =
     let d = dollar_lexes false g 36 refl in (
       _,
@@ -359,9 +361,9 @@ ends_dollar p read f g k e dead free =
     )
 
 -- in a name or in flags
-part_goes : (p : Place) (read : List ℕ) (f : Bool) (g : Goal) (k : Kind) → ended p ≡ Some k → next p 36 ≡ p → (tokens : List Lexeme) × TokenFrom p read f (mark g 36 ∷ []) g tokens
+part_goes : (p : Place) (read : List ℕ) (f : Bool) (g : Goal) (k : Kind) → ended p ≡ Some k → next p 36 ≡ p → (tokens : List Cut) × TokenFrom p read f (mark g 36 ∷ []) g tokens
 part_goes p read f g k e same =
-    (_, prepend p read f g 36 [] g _ (subst (λ (x : Place). TokenFrom x (36 ∷ read) f [] g (record { token = token_of k (onto read (36 ∷ [])); newline = f } ∷ [])) (sym same) ((last_token p (36 ∷ read) f g k e).comes refl)))
+    (_, prepend p read f g 36 [] g _ (subst (λ (x : Place). TokenFrom x (36 ∷ read) f [] g (cut (token_of k (onto read (36 ∷ []))) f [] ∷ [])) (sym same) ((last_token p (36 ∷ read) f g k e).comes refl)))
 
 mark_dollar_free : (p : Punct) → is_barred (TPunct p) 36 ≡ false
 mark_dollar_free TheSlash = refl
@@ -380,7 +382,7 @@ number_barred p k e f = by_rest (ended_rest (Number p) k e)
     by_rest : Rest (Number p) k [] → ⊥
     by_rest r = second (is_start 92) (subst (λ (x : Kind). is_barred (token_of x []) 92 ≡ false) r.0 f)
 
-dollar : (p : Place) (read : List ℕ) (f : Bool) (g : Goal) (k : Kind) → ended p ≡ Some k → is_barred (token_of k []) 92 ≡ false → (tokens : List Lexeme) × TokenFrom p read f (mark g 36 ∷ []) g tokens
+dollar : (p : Place) (read : List ℕ) (f : Bool) (g : Goal) (k : Kind) → ended p ≡ Some k → is_barred (token_of k []) 92 ≡ false → (tokens : List Cut) × TokenFrom p read f (mark g 36 ∷ []) g tokens
 dollar Name read f g k e free = part_goes Name read f g k e (then_in (λ (x : Place). x ≡ Name) (is_part 36) _ _ part_dollar refl)
 dollar (Escape host seen) read f g k e free = absurd cc
 dollar (AtMark p) read f g k e free =
@@ -403,7 +405,7 @@ dollar Dead read f g k e free = absurd cc
 
 -- what a step says of the escape that a text ends in then
 pub record Source (s : State) (read : List ℕ) (f : Bool) (m : List Mark) (g : Goal) : Type 0 where
-  pub dollar : (tokens : List Lexeme) → From s (own s read) f (mark g 36 ∷ []) g tokens → IsFront (m ++ mark g 36 ∷ [])
+  pub dollar : (tokens : List Cut) → From s (own s read) f (mark g 36 ∷ []) g tokens → IsFront (m ++ mark g 36 ∷ [])
   pub escape : (host : Host) (seen : Seen) → s ≡ Token (Escape host seen) → EscapeAt seen m
 
 by_whole : (m : List Mark) (g : Goal) (c : ℕ) (later : Seen) → c ≡ 92 → later ≡ EscapeMark → IsFront (m ++ mark g 36 ∷ []) → EscapeAt later (m ++ mark g c ∷ [])
@@ -521,7 +523,7 @@ alive (Pattern Flags) e = completes APattern [] (refl, tt)
 alive Dead e = absurd cc
 
 -- what is whole at the end
-whole_token : (p : Place) (read : List ℕ) (f : Bool) (k : Kind) (u : List ℕ) → Rest p k u → TokenFrom p read f (read_by Div u) Div (record { token = token_of k (onto read (chars (read_by Div u))); newline = f } ∷ [])
+whole_token : (p : Place) (read : List ℕ) (f : Bool) (k : Kind) (u : List ℕ) → Rest p k u → TokenFrom p read f (read_by Div u) Div (cut (token_of k (onto read (chars (read_by Div u)))) f [] ∷ [])
 whole_token p read f k u h = record {
   kind = k;
   before = read_by Div u;
@@ -557,14 +559,14 @@ ends_in_escape seen m h = record {
 
 -- what a state says of the texts that go on from it
 record Continuing (s : State) (read : List ℕ) (f : Bool) (m : List Mark) : Type 0 where
-  pub front : (w : List Mark) (end : Goal) (tokens : List Lexeme) → From s (own s read) f w end tokens → IsFront m
+  pub front : (w : List Mark) (end : Goal) (tokens : List Cut) → From s (own s read) f w end tokens → IsFront m
   pub escape : (host : Host) (seen : Seen) → s ≡ Token (Escape host seen) → EscapeAt seen m
 
 begins_at : (s : State) (read : List ℕ) (f : Bool) (m : List Mark) → Continuing s read f m → is_dead_state s ≡ false → Begins m
 begins_at Start read f m h e = inl (h.front [] Div [] (empty_lexes f Div))
 begins_at Slash read f m h e =
     let t = (last_token (behind_slash Div) (47 ∷ []) f Div (APunct TheSlash) refl).comes refl in
-    inl (h.front [] Div _ (Div, token_first f Div 47 [] Div _ (subst (λ (x : Place). TokenFrom x (47 ∷ []) f [] Div (record { token = TPunct TheSlash; newline = f } ∷ [])) (sym (first_slash Div)) t)))
+    inl (h.front [] Div _ (Div, token_first f Div 47 [] Div _ (subst (λ (x : Place). TokenFrom x (47 ∷ []) f [] Div (cut (TPunct TheSlash) f [] ∷ [])) (sym (first_slash Div)) t)))
 begins_at LineComment read f m h e =
     inl (h.front [] Div [] (record { comment = []; after = []; spells = refl; is = refl; ends = tt; further = empty_lexes f Div }))
 begins_at (BlockComment star) read f m h e =
@@ -591,8 +593,8 @@ alive_begins v m given h e = begins_at v.state h.read v.newline m (record {
   front = λ w end tokens x. record {
     back = w;
     end = end;
-    tokens = given ++ tokens;
-    lexes = h.residual.comes w end (given ++ tokens) (record { others = tokens; is = refl; from = x });
+    tokens = given ++ lexemes_of tokens;
+    lexes = coming v m given h w end tokens x;
   };
   escape = h.escape;
 }) e
@@ -623,7 +625,7 @@ no_within seen (BlockComment star) e w = absurd cc
 
 pub dead_begins : (v : Lexer) (m : List Mark) (given : List Lexeme) → HasRead v m given → is_dead_state v.state ≡ true → Begins m → ⊥
 dead_begins v m given h e (inl x) =
-    let y = h.residual.goes x.back x.end x.tokens x.lexes in
+    let y = going v m given h x.back x.end x.tokens x.lexes in
     dead_state v.state (own v.state h.read) v.newline x.back x.end y.others e y.from
 dead_begins v m given h e (inr x) =
     let s = seen_of (chars x.digits) x.is_open in

@@ -2,7 +2,8 @@
 use Rattle.std.proofs.Common.{◌≡◌, ℕ, Bool, true, false, ◌==◌, if◌then◌else◌, Option, Some, None, List, [], ◌∷◌, ◌++◌, ◌⊎◌, inl, inr, refl, sym, ap, subst, ◌∙◌, append_assoc}
 use Rattle.std.proofs.Common.{IsTrue}
 use Rattle.es5_lexer.specs.Trivia.{is_line_comment, EndsLine, IsCommentRest}
-use Rattle.es5_lexer.specs.Texts.{Mark, mark, chars, ended_in, Lexes, LexesFrom}
+use Rattle.es5_lexer.specs.Texts.{Mark, mark, chars, ended_in, Lexes}
+use Rattle.es5_lexer.specs.Cuts.{Cut, CutsFrom, lexemes_of, cuts_at}
 use Rattle.es5_lexer.specs.Suits.{is_div, suits, Suits}
 use Rattle.es5_lexer.specs.Places.{next, ended, behind_slash}
 use Rattle.es5_lexer.specs.Rests.{MarkRest, Rest}
@@ -28,6 +29,7 @@ use Rattle.es5_lexer.specs.declared.states.State.{State}
 use Rattle.es5_lexer.specs.declared.states.State.TheVariants.{Start, Slash, LineComment, BlockComment, Token}
 use Rattle.es5_lexer.proofs.Choices.{split, not_true}
 use Rattle.es5_lexer.proofs.PlaceLemmas.{ended_rest}
+use Rattle.es5_lexer.proofs.CutLemmas.{lexemes-append, lexemes-at, going, coming}
 use Rattle.es5_lexer.proofs.OpenLemmas.{Opened, a_blank, a_line, a_block, a_token, opened, line_first, block_first, token_first, reread, slash_no_blank}
 use Rattle.es5_lexer.proofs.TokenSteps.{Ended, of_ended, prepend, way}
 use Rattle.es5_lexer.proofs.EscapeSteps.{digit_step}
@@ -44,14 +46,14 @@ at_end m end tokens h = subst (λ (w : List Mark). Lexes w end tokens) (sym (app
 
 -- the residual doesn't ask for what isn't a state's own
 
-pub own_from : (s : State) (read : List ℕ) (f : Bool) (w : List Mark) (end : Goal) (tokens : List Lexeme) → From s read f w end tokens → From s (own s read) f w end tokens
+pub own_from : (s : State) (read : List ℕ) (f : Bool) (w : List Mark) (end : Goal) (tokens : List Cut) → From s read f w end tokens → From s (own s read) f w end tokens
 own_from Start read f w end tokens h = h
 own_from Slash read f w end tokens h = h
 own_from LineComment read f w end tokens h = h
 own_from (BlockComment star) read f w end tokens h = h
 own_from (Token p) read f w end tokens h = h
 
-pub from_own : (s : State) (read : List ℕ) (f : Bool) (w : List Mark) (end : Goal) (tokens : List Lexeme) → From s (own s read) f w end tokens → From s read f w end tokens
+pub from_own : (s : State) (read : List ℕ) (f : Bool) (w : List Mark) (end : Goal) (tokens : List Cut) → From s (own s read) f w end tokens → From s read f w end tokens
 from_own Start read f w end tokens h = h
 from_own Slash read f w end tokens h = h
 from_own LineComment read f w end tokens h = h
@@ -64,33 +66,38 @@ Gives k read f items t = (items ≡ given_by k read f) ⊎ (is_dead_state t ≡ 
 
 -- one step more
 
-more_goes : (v u : Lexer) (read : List ℕ) (m : List Mark) (given items : List Lexeme) (g : Goal) (c : ℕ) (k : Option Kind) → Residual v read m given → Steps v.state read v.newline g c k u.state u.newline → Gives k (own v.state read) v.newline items u.state → (w : List Mark) (end : Goal) (tokens : List Lexeme) → Lexes ((m ++ mark g c ∷ []) ++ w) end tokens → GoesOn u.state (own u.state (own_after k (own v.state read) c)) u.newline (given ++ items) w end tokens
-more_goes v u read m given items g c k r s gives w end tokens h =
-    let x = r.goes (mark g c ∷ w) end tokens (subst (λ (y : List Mark). Lexes y end tokens) (append_assoc m (mark g c ∷ []) w) h) in
+-- the tokens given, where the last ones end before a character
+abbrev with_items : (List Mark → List Cut) → List Lexeme → Goal → ℕ → List Mark → List Cut
+with_items gone items g c w = gone (mark g c ∷ w) ++ cuts_at items (mark g c ∷ w)
+
+more_goes : (v u : Lexer) (read : List ℕ) (m : List Mark) (gone : List Mark → List Cut) (items : List Lexeme) (g : Goal) (c : ℕ) (k : Option Kind) → Residual v read m gone → Steps v.state read v.newline g c k u.state u.newline → Gives k (own v.state read) v.newline items u.state → (w : List Mark) (end : Goal) (tokens : List Cut) → CutsFrom false ((m ++ mark g c ∷ []) ++ w) end tokens → GoesOn u.state (own u.state (own_after k (own v.state read) c)) u.newline (with_items gone items g c w) w end tokens
+more_goes v u read m gone items g c k r s gives w end tokens h =
+    let x = r.goes (mark g c ∷ w) end tokens (subst (λ (y : List Mark). CutsFrom false y end tokens) (append_assoc m (mark g c ∷ []) w) h) in
     let y = s.goes w end x.others x.from in
     by_gives x.others y.others x.is y.is y.from gives
   where
-    by_gives : (others rest : List Lexeme) → tokens ≡ given ++ others → others ≡ given_by k (own v.state read) v.newline ++ rest → From u.state (own_after k (own v.state read) c) u.newline w end rest → Gives k (own v.state read) v.newline items u.state → GoesOn u.state (own u.state (own_after k (own v.state read) c)) u.newline (given ++ items) w end tokens
+    by_gives : (others rest : List Cut) → tokens ≡ gone (mark g c ∷ w) ++ others → others ≡ cuts_at (given_by k (own v.state read) v.newline) (mark g c ∷ w) ++ rest → From u.state (own_after k (own v.state read) c) u.newline w end rest → Gives k (own v.state read) v.newline items u.state → GoesOn u.state (own u.state (own_after k (own v.state read) c)) u.newline (with_items gone items g c w) w end tokens
     by_gives others rest e f from (inl i) = record {
       others = rest;
-      is = e ∙ ap (λ (z : List Lexeme). given ++ z) (f ∙ ap (λ (z : List Lexeme). z ++ rest) (sym i)) ∙ sym (append_assoc given items rest);
+      is = e ∙ ap (λ (z : List Cut). gone (mark g c ∷ w) ++ z) (f ∙ ap (λ (z : List Lexeme). cuts_at z (mark g c ∷ w) ++ rest) (sym i)) ∙ sym (append_assoc (gone (mark g c ∷ w)) (cuts_at items (mark g c ∷ w)) rest);
       from = own_from u.state (own_after k (own v.state read) c) u.newline w end rest from;
     }
     by_gives others rest e f from (inr d) = absurd (dead_state u.state _ u.newline w end rest d from)
 
-more_comes : (v u : Lexer) (read : List ℕ) (m : List Mark) (given items : List Lexeme) (g : Goal) (c : ℕ) (k : Option Kind) → Residual v read m given → Steps v.state read v.newline g c k u.state u.newline → Gives k (own v.state read) v.newline items u.state → (w : List Mark) (end : Goal) (tokens : List Lexeme) → GoesOn u.state (own u.state (own_after k (own v.state read) c)) u.newline (given ++ items) w end tokens → Lexes ((m ++ mark g c ∷ []) ++ w) end tokens
-more_comes v u read m given items g c k r s gives w end tokens h = by_gives gives
+more_comes : (v u : Lexer) (read : List ℕ) (m : List Mark) (gone : List Mark → List Cut) (items : List Lexeme) (g : Goal) (c : ℕ) (k : Option Kind) → Residual v read m gone → Steps v.state read v.newline g c k u.state u.newline → Gives k (own v.state read) v.newline items u.state → (w : List Mark) (end : Goal) (tokens : List Cut) → GoesOn u.state (own u.state (own_after k (own v.state read) c)) u.newline (with_items gone items g c w) w end tokens → CutsFrom false ((m ++ mark g c ∷ []) ++ w) end tokens
+more_comes v u read m gone items g c k r s gives w end tokens h = by_gives gives
   where
     from : From u.state (own_after k (own v.state read) c) u.newline w end h.others
     from = from_own u.state (own_after k (own v.state read) c) u.newline w end h.others h.from
 
-    by_gives : Gives k (own v.state read) v.newline items u.state → Lexes ((m ++ mark g c ∷ []) ++ w) end tokens
+    by_gives : Gives k (own v.state read) v.newline items u.state → CutsFrom false ((m ++ mark g c ∷ []) ++ w) end tokens
     by_gives (inl i) =
-        let y = s.comes w end (given_by k (own v.state read) v.newline ++ h.others) (record { others = h.others; is = refl; from = from }) in
-        subst (λ (z : List Mark). Lexes z end tokens) (sym (append_assoc m (mark g c ∷ []) w))
+        let here : List Cut = cuts_at (given_by k (own v.state read) v.newline) (mark g c ∷ w) in
+        let y = s.comes w end (here ++ h.others) (record { others = h.others; is = refl; from = from }) in
+        subst (λ (z : List Mark). CutsFrom false z end tokens) (sym (append_assoc m (mark g c ∷ []) w))
         (r.comes (mark g c ∷ w) end tokens (record {
-          others = given_by k (own v.state read) v.newline ++ h.others;
-          is = h.is ∙ append_assoc given items h.others ∙ ap (λ (z : List Lexeme). given ++ (z ++ h.others)) i;
+          others = here ++ h.others;
+          is = h.is ∙ append_assoc (gone (mark g c ∷ w)) (cuts_at items (mark g c ∷ w)) h.others ∙ ap (λ (z : List Lexeme). gone (mark g c ∷ w) ++ (cuts_at z (mark g c ∷ w) ++ h.others)) i;
           from = y;
         }))
     by_gives (inr d) = absurd (dead_state u.state _ u.newline w end h.others d from)
@@ -139,15 +146,15 @@ source v m given g h = record {
   dollar = λ tokens x. record {
     back = [];
     end = g;
-    tokens = given ++ tokens;
-    lexes = at_end (m ++ mark g 36 ∷ []) g (given ++ tokens) (h.residual.comes (mark g 36 ∷ []) g (given ++ tokens) (record { others = tokens; is = refl; from = x }));
+    tokens = given ++ lexemes_of tokens;
+    lexes = at_end (m ++ mark g 36 ∷ []) g (given ++ lexemes_of tokens) (coming v m given h (mark g 36 ∷ []) g tokens x);
   };
   escape = h.escape;
 }
 
 base : (v u : Lexer) (m : List Mark) (given : List Lexeme) (g : Goal) (c : ℕ) (k : Option Kind) → HasRead v m given → Leads v.state g c k u.state → IsFront (m ++ mark g 36 ∷ []) → c ≡ 92 → Within EscapeMark u.state
 base v u m given g c k h leads x e =
-    let y = h.residual.goes (mark g 36 ∷ x.back) x.end x.tokens (subst (λ (z : List Mark). Lexes z x.end x.tokens) (append_assoc m (mark g 36 ∷ []) x.back) x.lexes) in
+    let y = going v m given h (mark g 36 ∷ x.back) x.end x.tokens (subst (λ (z : List Mark). Lexes z x.end x.tokens) (append_assoc m (mark g 36 ∷ []) x.back) x.lexes) in
     backslash_step v.state h.read v.newline g c k u.state x.back x.end y.others y.from e leads
 
 pub reads_on : (v u : Lexer) (m : List Mark) (given items : List Lexeme) (g : Goal) (c : ℕ) (k : Option Kind) → HasRead v m given → ((read : List ℕ) → Steps v.state read v.newline g c k u.state u.newline) → Leads v.state g c k u.state → items ≡ given_lexemes v.letters k v.newline → ((goal : Goal) (read : List ℕ) → Leads v.state goal c k u.state → HeardAt v.letters v.state (own v.state read) → HeardAt u.letters u.state (own_after k (own v.state read) c)) → HasRead u (m ++ mark g c ∷ []) (given ++ items)
@@ -157,9 +164,11 @@ reads_on v u m given items g c k h steps leads e heard =
     record {
       read = own_after k (own v.state h.read) c;
       heard = own_heard u.letters u.state (own_after k (own v.state h.read) c) (heard g h.read leads h.heard);
+      cuts = with_items h.cuts items g c;
+      lexemes = λ w. lexemes-append (h.cuts (mark g c ∷ w)) (cuts_at items (mark g c ∷ w)) ∙ ap (λ (z : List Lexeme). z ++ lexemes_of (cuts_at items (mark g c ∷ w))) (h.lexemes (mark g c ∷ w)) ∙ ap (λ (z : List Lexeme). given ++ z) (lexemes-at items (mark g c ∷ w));
       residual = record {
-        goes = λ w end tokens x. more_goes v u h.read m given items g c k h.residual s gives w end tokens x;
-        comes = λ w end tokens x. more_comes v u h.read m given items g c k h.residual s gives w end tokens x;
+        goes = λ w end tokens x. more_goes v u h.read m h.cuts items g c k h.residual s gives w end tokens x;
+        comes = λ w end tokens x. more_comes v u h.read m h.cuts items g c k h.residual s gives w end tokens x;
       };
       escape = λ host later i. escape_step v.state h.read v.newline m g c k host later (source v m given g h) (subst (λ (x : State). Leads v.state g c k x) i leads);
       within = within_step m g c u.state (base v u m given g c k h leads) (λ seen a d. digit_step seen c v.state g k u.state d (h.within seen a) leads);
@@ -168,17 +177,17 @@ reads_on v u m given items g c k h steps leads e heard =
 -- another goal with the next character
 
 -- the rest of a comment or of a token whose first character came with another goal
-pub line_change : (f : Bool) (g h : Goal) (c : ℕ) (w : List Mark) (end : Goal) (tokens : List Lexeme) → LineFrom f (mark g c ∷ w) end tokens → LineFrom f (mark h c ∷ w) end tokens
+pub line_change : (f : Bool) (g h : Goal) (c : ℕ) (w : List Mark) (end : Goal) (tokens : List Cut) → LineFrom f (mark g c ∷ w) end tokens → LineFrom f (mark h c ∷ w) end tokens
 line_change f g h c w end tokens x = by_comment x.comment x.after x.spells x.is x.ends x.further
   where
-    by_comment : (q r : List Mark) → mark g c ∷ w ≡ q ++ r → is_line_comment (chars q) ≡ true → EndsLine (chars r) → LexesFrom f r end tokens → LineFrom f (mark h c ∷ w) end tokens
+    by_comment : (q r : List Mark) → mark g c ∷ w ≡ q ++ r → is_line_comment (chars q) ≡ true → EndsLine (chars r) → CutsFrom f r end tokens → LineFrom f (mark h c ∷ w) end tokens
     by_comment [] r e i k l = record {
       comment = [];
       after = mark h c ∷ w;
       spells = refl;
       is = i;
       ends = subst (λ (v : List Mark). EndsLine (chars v)) (sym e) k;
-      further = reread f g h c w end tokens (subst (λ (v : List Mark). LexesFrom f v end tokens) (sym e) l);
+      further = reread f g h c w end tokens (subst (λ (v : List Mark). CutsFrom f v end tokens) (sym e) l);
     }
     by_comment (n ∷ q) r e i k l =
         let head : mark g c ≡ n = cc in let tail : w ≡ q ++ r = cc in
@@ -192,10 +201,10 @@ line_change f g h c w end tokens x = by_comment x.comment x.after x.spells x.is 
           further = l;
         }
 
-pub block_change : (star f : Bool) (g h : Goal) (c : ℕ) (w : List Mark) (end : Goal) (tokens : List Lexeme) → BlockFrom star f (mark g c ∷ w) end tokens → BlockFrom star f (mark h c ∷ w) end tokens
+pub block_change : (star f : Bool) (g h : Goal) (c : ℕ) (w : List Mark) (end : Goal) (tokens : List Cut) → BlockFrom star f (mark g c ∷ w) end tokens → BlockFrom star f (mark h c ∷ w) end tokens
 block_change star f g h c w end tokens x = by_comment x.comment x.after x.spells x.is x.further
   where
-    by_comment : (q r : List Mark) → mark g c ∷ w ≡ q ++ r → IsCommentRest star (chars q) → LexesFrom (ended_in f (chars q)) r end tokens → BlockFrom star f (mark h c ∷ w) end tokens
+    by_comment : (q r : List Mark) → mark g c ∷ w ≡ q ++ r → IsCommentRest star (chars q) → CutsFrom (ended_in f (chars q)) r end tokens → BlockFrom star f (mark h c ∷ w) end tokens
     by_comment [] r e i l = absurd i
     by_comment (n ∷ q) r e i l =
         let head : mark g c ≡ n = cc in let tail : w ≡ q ++ r = cc in
@@ -205,10 +214,10 @@ block_change star f g h c w end tokens x = by_comment x.comment x.after x.spells
           after = r;
           spells = ap (λ (v : List Mark). mark h c ∷ v) tail;
           is = subst (λ (y : ℕ). IsCommentRest star (y ∷ chars q)) same i;
-          further = subst (λ (y : ℕ). LexesFrom (ended_in f (y ∷ chars q)) r end tokens) same l;
+          further = subst (λ (y : ℕ). CutsFrom (ended_in f (y ∷ chars q)) r end tokens) same l;
         }
 
-pub token_change : (p : Place) (read : List ℕ) (f : Bool) (g h : Goal) (c : ℕ) (w : List Mark) (end : Goal) (tokens : List Lexeme) → TokenFrom p read f (mark g c ∷ w) end tokens → TokenFrom p read f (mark h c ∷ w) end tokens
+pub token_change : (p : Place) (read : List ℕ) (f : Bool) (g h : Goal) (c : ℕ) (w : List Mark) (end : Goal) (tokens : List Cut) → TokenFrom p read f (mark g c ∷ w) end tokens → TokenFrom p read f (mark h c ∷ w) end tokens
 token_change p read f g h c w end tokens x = by_way (way p read f g c w end tokens x)
   where
     by_way : TokenFrom (next p c) (c ∷ read) f w end tokens ⊎ Ended p read f (mark g c ∷ w) end tokens → TokenFrom p read f (mark h c ∷ w) end tokens
@@ -255,13 +264,13 @@ same_slash : (g h : Goal) → is_div g ≡ is_div h → behind_slash g ≡ behin
 same_slash g h e = ap (λ (b : Bool). if b then AtMark TheSlash else Pattern BodyStart) e
 
 -- the goal suits the first of the tokens
-abbrev pub Fitting : Goal → List Lexeme → Type 0
-Fitting goal tokens = (x : Lexeme) (others : List Lexeme) → tokens ≡ x ∷ others → suits x.token goal ≡ true
+abbrev pub Fitting : Goal → List Cut → Type 0
+Fitting goal tokens = (x : Cut) (others : List Cut) → tokens ≡ x ∷ others → suits x.lexeme.token goal ≡ true
 
-slash_change : (f : Bool) (other goal : Goal) (c : ℕ) (w : List Mark) (end : Goal) (tokens : List Lexeme) → Fitting goal tokens → (g : Goal) × LexesFrom f (mark g 47 ∷ mark other c ∷ w) end tokens → (g : Goal) × LexesFrom f (mark g 47 ∷ mark goal c ∷ w) end tokens
+slash_change : (f : Bool) (other goal : Goal) (c : ℕ) (w : List Mark) (end : Goal) (tokens : List Cut) → Fitting goal tokens → (g : Goal) × CutsFrom f (mark g 47 ∷ mark other c ∷ w) end tokens → (g : Goal) × CutsFrom f (mark g 47 ∷ mark goal c ∷ w) end tokens
 slash_change f other goal c w end tokens fits (g, l) = (g, by_first (opened f g 47 (mark other c ∷ w) end tokens l))
   where
-    by_first : Opened f 47 (mark other c ∷ w) end tokens → LexesFrom f (mark g 47 ∷ mark goal c ∷ w) end tokens
+    by_first : Opened f 47 (mark other c ∷ w) end tokens → CutsFrom f (mark g 47 ∷ mark goal c ∷ w) end tokens
     by_first (a_blank b _) = absurd (slash_no_blank 47 refl b)
     by_first (a_line d v _ e s x) =
         let head : mark other c ≡ d = cc in let tail : w ≡ v = cc in
@@ -276,7 +285,7 @@ slash_change f other goal c w end tokens fits (g, l) = (g, by_first (opened f g 
         (subst (λ (p : Place). TokenFrom p (47 ∷ []) f (mark goal c ∷ w) end tokens) (sym (first_slash goal ∙ same_slash goal other half))
         (token_change (behind_slash other) (47 ∷ []) f other goal c w end tokens at))
 
-pub change : (s : State) (read : List ℕ) (f : Bool) (other goal : Goal) (c : ℕ) (w : List Mark) (end : Goal) (tokens : List Lexeme) → Fitting goal tokens → From s read f (mark other c ∷ w) end tokens → From s read f (mark goal c ∷ w) end tokens
+pub change : (s : State) (read : List ℕ) (f : Bool) (other goal : Goal) (c : ℕ) (w : List Mark) (end : Goal) (tokens : List Cut) → Fitting goal tokens → From s read f (mark other c ∷ w) end tokens → From s read f (mark goal c ∷ w) end tokens
 change Start read f other goal c w end tokens fits h = reread f other goal c w end tokens h
 change Slash read f other goal c w end tokens fits h = slash_change f other goal c w end tokens fits h
 change LineComment read f other goal c w end tokens fits h = line_change f other goal c w end tokens h
@@ -285,24 +294,22 @@ change (Token p) read f other goal c w end tokens fits h = token_change p read f
 
 pub asks_char : (v : Lexer) (m : List Mark) (given : List Lexeme) (goal : Goal) (c : ℕ) → HasRead v m given → (other : Goal) (w : List Mark) (end : Goal) (tokens : List Lexeme) → Lexes (m ++ mark other c ∷ w) end tokens → Suits given goal tokens → Lexes (m ++ mark goal c ∷ w) end tokens
 asks_char v m given goal c h other w end tokens l suited =
-    let x = h.residual.goes (mark other c ∷ w) end tokens l in
-    h.residual.comes (mark goal c ∷ w) end tokens (record {
-      others = x.others;
-      is = x.is;
-      from = change v.state (own v.state h.read) v.newline other goal c w end x.others (λ y others e. suited y others (x.is ∙ ap (λ (z : List Lexeme). given ++ z) e)) x.from;
-    })
+    let x = going v m given h (mark other c ∷ w) end tokens l in
+    subst (λ (z : List Lexeme). Lexes (m ++ mark goal c ∷ w) end z) (sym x.is)
+    (coming v m given h (mark goal c ∷ w) end x.others
+    (change v.state (own v.state h.read) v.newline other goal c w end x.others (λ y others e. suited y.lexeme (lexemes_of others) (x.is ∙ ap (λ (z : List Cut). given ++ lexemes_of z) e)) x.from))
 
 -- another goal at the end
 
-end_change : (f : Bool) (g h : Goal) (tokens : List Lexeme) → LexesFrom f [] g tokens → LexesFrom f [] h tokens
-end_change f g h tokens l = subst (λ (x : List Lexeme). LexesFrom f [] h x) (sym (no_tokens f g tokens l)) (empty_lexes f h)
+end_change : (f : Bool) (g h : Goal) (tokens : List Cut) → CutsFrom f [] g tokens → CutsFrom f [] h tokens
+end_change f g h tokens l = subst (λ (x : List Cut). CutsFrom f [] h x) (sym (no_tokens f g tokens l)) (empty_lexes f h)
 
-after_change : (f : Bool) (g h : Goal) (before after : List Mark) (tokens : List Lexeme) → [] ≡ before ++ after → LexesFrom f after g tokens → LexesFrom f after h tokens
+after_change : (f : Bool) (g h : Goal) (before after : List Mark) (tokens : List Cut) → [] ≡ before ++ after → CutsFrom f after g tokens → CutsFrom f after h tokens
 after_change f g h before after tokens e l =
     let none = (nothing before after e).1 in
-    subst (λ (v : List Mark). LexesFrom f v h tokens) (sym none) (end_change f g h tokens (subst (λ (v : List Mark). LexesFrom f v g tokens) none l))
+    subst (λ (v : List Mark). CutsFrom f v h tokens) (sym none) (end_change f g h tokens (subst (λ (v : List Mark). CutsFrom f v g tokens) none l))
 
-token_end_change : (p : Place) (read : List ℕ) (f : Bool) (g h : Goal) (tokens : List Lexeme) → TokenFrom p read f [] g tokens → TokenFrom p read f [] h tokens
+token_end_change : (p : Place) (read : List ℕ) (f : Bool) (g h : Goal) (tokens : List Cut) → TokenFrom p read f [] g tokens → TokenFrom p read f [] h tokens
 token_end_change p read f g h tokens x = record {
   kind = x.kind;
   before = x.before;
@@ -316,10 +323,10 @@ token_end_change p read f g h tokens x = record {
   gives = x.gives;
 }
 
-slash_end_change : (f : Bool) (other goal : Goal) (tokens : List Lexeme) → Fitting goal tokens → (g : Goal) × LexesFrom f (mark g 47 ∷ []) other tokens → (g : Goal) × LexesFrom f (mark g 47 ∷ []) goal tokens
+slash_end_change : (f : Bool) (other goal : Goal) (tokens : List Cut) → Fitting goal tokens → (g : Goal) × CutsFrom f (mark g 47 ∷ []) other tokens → (g : Goal) × CutsFrom f (mark g 47 ∷ []) goal tokens
 slash_end_change f other goal tokens fits (g, l) = (g, by_first (opened f g 47 [] other tokens l))
   where
-    by_first : Opened f 47 [] other tokens → LexesFrom f (mark g 47 ∷ []) goal tokens
+    by_first : Opened f 47 [] other tokens → CutsFrom f (mark g 47 ∷ []) goal tokens
     by_first (a_blank b _) = absurd (slash_no_blank 47 refl b)
     by_first (a_line d v _ e s x) = absurd cc
     by_first (a_block d v _ e s x) = absurd cc
@@ -330,7 +337,7 @@ slash_end_change f other goal tokens fits (g, l) = (g, by_first (opened f g 47 [
         (subst (λ (p : Place). TokenFrom p (47 ∷ []) f [] goal tokens) (sym (first_slash goal ∙ same_slash goal other half))
         (token_end_change (behind_slash other) (47 ∷ []) f other goal tokens at))
 
-pub change_end : (s : State) (read : List ℕ) (f : Bool) (other goal : Goal) (tokens : List Lexeme) → Fitting goal tokens → From s read f [] other tokens → From s read f [] goal tokens
+pub change_end : (s : State) (read : List ℕ) (f : Bool) (other goal : Goal) (tokens : List Cut) → Fitting goal tokens → From s read f [] other tokens → From s read f [] goal tokens
 change_end Start read f other goal tokens fits h = end_change f other goal tokens h
 change_end Slash read f other goal tokens fits h = slash_end_change f other goal tokens fits h
 change_end LineComment read f other goal tokens fits h = record {
@@ -357,12 +364,10 @@ of_end m end tokens h = subst (λ (w : List Mark). Lexes w end tokens) (append-n
 
 pub asks_end : (v : Lexer) (m : List Mark) (given : List Lexeme) (goal : Goal) → HasRead v m given → (other : Goal) (tokens : List Lexeme) → Lexes m other tokens → Suits given goal tokens → Lexes m goal tokens
 asks_end v m given goal h other tokens l suited =
-    let x = h.residual.goes [] other tokens (at_end m other tokens l) in
-    of_end m goal tokens (h.residual.comes [] goal tokens (record {
-      others = x.others;
-      is = x.is;
-      from = change_end v.state (own v.state h.read) v.newline other goal x.others (λ y others e. suited y others (x.is ∙ ap (λ (z : List Lexeme). given ++ z) e)) x.from;
-    }))
+    let x = going v m given h [] other tokens (at_end m other tokens l) in
+    of_end m goal tokens (subst (λ (z : List Lexeme). Lexes (m ++ []) goal z) (sym x.is)
+    (coming v m given h [] goal x.others
+    (change_end v.state (own v.state h.read) v.newline other goal x.others (λ y others e. suited y.lexeme (lexemes_of others) (x.is ∙ ap (λ (z : List Cut). given ++ lexemes_of z) e)) x.from)))
 
 -- the last token by its letters
 last_by_place : (l : Letters) (p : Place) (read : List ℕ) (f : Bool) (k : Option Kind) → Hears l.letters.items l.escapes p read → k ≡ ended p → given_lexemes l k f ≡ given_by k read f
@@ -380,18 +385,17 @@ pub end_gives : (v : Lexer) (m : List Mark) (given items : List Lexeme) (goal : 
 end_gives v m given items goal whole k ends kind e h w =
     let x = (ends h.read v.newline).comes w in
     let same = e ∙ last_same v.letters v.state goal whole k h.read v.newline h.heard kind w in
-    of_end m goal (given ++ items) (h.residual.comes [] goal (given ++ items) (record {
-      others = given_by k (own v.state h.read) v.newline;
-      is = ap (λ (z : List Lexeme). given ++ z) same;
-      from = x;
-    }))
+    let last : List Lexeme = given_by k (own v.state h.read) v.newline in
+    of_end m goal (given ++ items) (subst (λ (z : List Lexeme). Lexes (m ++ []) goal (given ++ z)) (lexemes-at last [] ∙ sym same)
+    (coming v m given h [] goal (cuts_at last []) x))
 
 pub end_exact : (v : Lexer) (m : List Mark) (given items tokens : List Lexeme) (goal : Goal) (whole : Bool) (k : Option Kind) → ((read : List ℕ) (newline : Bool) → Ends v.state read newline goal whole k) → EndsAs v.state goal whole k → items ≡ given_lexemes v.letters k v.newline → HasRead v m given → Lexes m goal tokens → IsTrue whole × (tokens ≡ given ++ items)
 end_exact v m given items tokens goal whole k ends kind e h l =
-    let x = h.residual.goes [] goal tokens (at_end m goal tokens l) in
+    let x = going v m given h [] goal tokens (at_end m goal tokens l) in
     let y = (ends h.read v.newline).goes x.others x.from in
     let same = e ∙ last_same v.letters v.state goal whole k h.read v.newline h.heard kind y.0 in
-    (y.0, x.is ∙ ap (λ (z : List Lexeme). given ++ z) (y.1 ∙ sym same))
+    let last : List Lexeme = given_by k (own v.state h.read) v.newline in
+    (y.0, x.is ∙ ap (λ (z : List Lexeme). given ++ z) (ap lexemes_of y.1 ∙ lexemes-at last [] ∙ sym same))
 
 -- a new lexer has read nothing
 
@@ -402,24 +406,26 @@ no_escape (y ∷ a) x b e = absurd cc
 pub new_reads : (v : Lexer) → v.state ≡ Start → v.newline ≡ false → HasRead v [] []
 new_reads v s n = record {
   read = [];
+  cuts = λ w. [];
+  lexemes = λ w. refl;
   heard = subst (λ (x : State). HeardAt v.letters x (own x [])) (sym s) tt;
   residual = record {
     goes = λ w end tokens h. record { others = tokens; is = refl; from = at_start w end tokens h };
-    comes = λ w end tokens h. subst (λ (x : List Lexeme). LexesFrom false w end x) (sym h.is) (of_start w end h.others h.from);
+    comes = λ w end tokens h. subst (λ (x : List Cut). CutsFrom false w end x) (sym h.is) (of_start w end h.others h.from);
   };
   escape = λ host seen e. absurd cc;
   within = λ seen h. absurd (no_escape h.before h.backslash h.digits h.splits);
 }
   where
-    at_start : (w : List Mark) (end : Goal) (tokens : List Lexeme) → LexesFrom false w end tokens → From v.state (own v.state []) v.newline w end tokens
+    at_start : (w : List Mark) (end : Goal) (tokens : List Cut) → CutsFrom false w end tokens → From v.state (own v.state []) v.newline w end tokens
     at_start w end tokens h =
-        subst (λ (x : State). From x (own x []) v.newline w end tokens) (sym s) (subst (λ (x : Bool). LexesFrom x w end tokens) (sym n) h)
+        subst (λ (x : State). From x (own x []) v.newline w end tokens) (sym s) (subst (λ (x : Bool). CutsFrom x w end tokens) (sym n) h)
 
-    of_start : (w : List Mark) (end : Goal) (tokens : List Lexeme) → From v.state (own v.state []) v.newline w end tokens → LexesFrom false w end tokens
+    of_start : (w : List Mark) (end : Goal) (tokens : List Cut) → From v.state (own v.state []) v.newline w end tokens → CutsFrom false w end tokens
     of_start w end tokens h =
-        subst (λ (x : Bool). LexesFrom x w end tokens) n (subst (λ (x : State). From x (own x []) v.newline w end tokens) s h)
+        subst (λ (x : Bool). CutsFrom x w end tokens) n (subst (λ (x : State). From x (own x []) v.newline w end tokens) s h)
 
 -- laws
 
 pub stays : (v : Lexer) (m : List Mark) (given : List Lexeme) → HasRead v m given → (w : List Mark) (end : Goal) (tokens : List Lexeme) → Lexes (m ++ w) end tokens → (others : List Lexeme) × (tokens ≡ given ++ others)
-stays v m given h w end tokens l = let x = h.residual.goes w end tokens l in (x.others, x.is)
+stays v m given h w end tokens l = let x = going v m given h w end tokens l in (lexemes_of x.others, x.is)

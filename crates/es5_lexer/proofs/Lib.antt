@@ -11,12 +11,14 @@ pub mod PassLemmas
 pub mod NextLemmas
 pub mod LawLemmas
 pub mod EitherLemmas
+pub mod CutLemmas
 pub mod OpenLemmas
 pub mod StepLemmas
 pub mod TokenSteps
 pub mod SlashLemmas
 pub mod LetterLemmas
 pub mod LexerLemmas
+pub mod GivenLemmas
 pub mod EscapeSteps
 pub mod AliveLemmas
 pub mod RunLemmas

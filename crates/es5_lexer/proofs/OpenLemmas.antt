@@ -4,14 +4,14 @@ use Rattle.es5_lexer.specs.Characters.{is_line_end, is_space, is_line_end_class,
 use Rattle.es5_lexer.specs.Trivia.{is_blank, EndsLine}
 use Rattle.es5_lexer.specs.Numbers.{is_nonzero}
 use Rattle.es5_lexer.specs.Tokens.{may_precede, Stands}
-use Rattle.es5_lexer.specs.Texts.{Mark, mark, chars, asked, Item, blank, line, block, token, text, Fit, ended_by, lexemes, LexesFrom}
+use Rattle.es5_lexer.specs.Texts.{Mark, mark, chars, asked, Item, blank, line, block, token, text, Fit, ended_by}
+use Rattle.es5_lexer.specs.Cuts.{Cut, cut, cuts, CutsFrom}
 use Rattle.es5_lexer.specs.Reading.{trivium_with, comment, leading_trivium, token_of}
 use Rattle.es5_lexer.specs.Places.{mark as punct_of, behind_slash, behind_mark, first}
 use Rattle.es5_lexer.specs.Rests.{Rest}
 use Rattle.es5_lexer.specs.Residuals.{TokenFrom, LineFrom, BlockFrom}
 use Rattle.es5_lexer.specs.declared.tokens.Goal.{Goal}
 use Rattle.es5_lexer.specs.declared.tokens.Token.{Token as AToken}
-use Rattle.es5_lexer.specs.declared.tokens.Lexeme.{Lexeme}
 use Rattle.es5_lexer.specs.declared.places.Kind.{Kind}
 use Rattle.es5_lexer.specs.declared.places.Place.{Place}
 use Rattle.es5_lexer.specs.declared.places.Place.TheVariants.{Name, Escape, Number, Text}
@@ -26,14 +26,14 @@ use Rattle.es5_lexer.proofs.FirstLemmas.{first_goes, first_comes}
 use Rattle.es5_lexer.proofs.TokenLemmas.{token_kind, kind_token, no_trivium}
 
 -- what the first character begins, before the text w
-pub data Opened (f : Bool) (c : ℕ) (w : List Mark) (end : Goal) (tokens : List Lexeme) : Type 0 where
-  a_blank : is_blank c ≡ true → LexesFrom (ended_by f c) w end tokens → Opened f c w end tokens
+pub data Opened (f : Bool) (c : ℕ) (w : List Mark) (end : Goal) (tokens : List Cut) : Type 0 where
+  a_blank : is_blank c ≡ true → CutsFrom (ended_by f c) w end tokens → Opened f c w end tokens
   a_line : (d : Mark) (v : List Mark) → c ≡ 47 → w ≡ d ∷ v → d.character ≡ 47 → LineFrom f v end tokens → Opened f c w end tokens
   a_block : (d : Mark) (v : List Mark) → c ≡ 47 → w ≡ d ∷ v → d.character ≡ 42 → BlockFrom false f v end tokens → Opened f c w end tokens
   a_token : TokenFrom (first (asked w end) c) (c ∷ []) f w end tokens → Opened f c w end tokens
 
 -- a token at the front
-token_opened : (f : Bool) (c : ℕ) (t : AToken) (q rest : List Mark) (end : Goal) (others tokens : List Lexeme) → Stands (asked (q ++ rest) end) t (c ∷ chars q) (chars rest) → LexesFrom false rest end others → tokens ≡ record { token = t; newline = f } ∷ others → TokenFrom (first (asked (q ++ rest) end) c) (c ∷ []) f (q ++ rest) end tokens
+token_opened : (f : Bool) (c : ℕ) (t : AToken) (q rest : List Mark) (end : Goal) (others tokens : List Cut) → Stands (asked (q ++ rest) end) t (c ∷ chars q) (chars rest) → CutsFrom false rest end others → tokens ≡ cut t f rest ∷ others → TokenFrom (first (asked (q ++ rest) end) c) (c ∷ []) f (q ++ rest) end tokens
 token_opened f c t q rest end others tokens s l e =
     let g : Goal = asked (q ++ rest) end in
     let k = token_kind g t (c ∷ chars q) s.is in
@@ -47,16 +47,16 @@ token_opened f c t q rest end others tokens s l e =
       longest = λ a b m h r. s.longest a b (token_of m (c ∷ (chars q ++ a))) h (kind_token g m (c ∷ (chars q ++ a)) (first_comes g m c (chars q ++ a) r));
       free = subst (λ (x : AToken). may_precede x (chars rest) ≡ true) (sym k.gives) s.free;
       further = l;
-      gives = e ∙ ap (λ (x : AToken). record { token = x; newline = f } ∷ others) (sym k.gives);
+      gives = e ∙ ap (λ (x : AToken). cut x f rest ∷ others) (sym k.gives);
     }
 
-by_items : (f : Bool) (g : Goal) (c : ℕ) (w : List Mark) (end : Goal) (tokens : List Lexeme) (items : List Item) → mark g c ∷ w ≡ text items [] → Fit items [] end → tokens ≡ lexemes f items → Opened f c w end tokens
+by_items : (f : Bool) (g : Goal) (c : ℕ) (w : List Mark) (end : Goal) (tokens : List Cut) (items : List Item) → mark g c ∷ w ≡ text items [] → Fit items [] end → tokens ≡ cuts f items → Opened f c w end tokens
 by_items f g c w end tokens [] e h k = absurd cc
 by_items f g c w end tokens (blank m ∷ items) e h k =
     let head : mark g c ≡ m = cc in let tail : w ≡ text items [] = cc in
     let same : m.character ≡ c = ap (λ (x : Mark). x.character) (sym head) in
     a_blank (ap is_blank (sym same) ∙ h.0)
-    (record { items = items; spells = tail; fits = h.1; gives = k ∙ ap (λ (x : ℕ). lexemes (ended_by f x) items) same })
+    (record { items = items; spells = tail; fits = h.1; gives = k ∙ ap (λ (x : ℕ). cuts (ended_by f x) items) same })
 by_items f g c w end tokens (line a b q ∷ items) e h k =
     let head : mark g c ≡ a = cc in let tail : w ≡ b ∷ (q ++ text items []) = cc in
     a_line b (q ++ text items []) (ap (λ (x : Mark). x.character) head ∙ h.0.0) tail h.0.1
@@ -69,16 +69,16 @@ by_items f g c w end tokens (token t a q ∷ items) e h k =
     let head : mark g c ≡ a = cc in let tail : w ≡ q ++ text items [] = cc in
     let same : a.character ≡ c = ap (λ (x : Mark). x.character) (sym head) in
     a_token (subst (λ (v : List Mark). TokenFrom (first (asked v end) c) (c ∷ []) f v end tokens) (sym tail)
-    (token_opened f c t q (text items []) end (lexemes false items) tokens
+    (token_opened f c t q (text items []) end (cuts false items) tokens
     (subst (λ (x : ℕ). Stands (asked (q ++ text items []) end) t (x ∷ chars q) (chars (text items []))) same h.0)
     (record { items = items; spells = refl; fits = h.1; gives = refl }) k))
 
-pub opened : (f : Bool) (g : Goal) (c : ℕ) (w : List Mark) (end : Goal) (tokens : List Lexeme) → LexesFrom f (mark g c ∷ w) end tokens → Opened f c w end tokens
+pub opened : (f : Bool) (g : Goal) (c : ℕ) (w : List Mark) (end : Goal) (tokens : List Cut) → CutsFrom f (mark g c ∷ w) end tokens → Opened f c w end tokens
 opened f g c w end tokens h = by_items f g c w end tokens h.items h.spells h.fits h.gives
 
 -- and back, under any goal
 
-pub blank_first : (f : Bool) (g : Goal) (c : ℕ) (w : List Mark) (end : Goal) (tokens : List Lexeme) → is_blank c ≡ true → LexesFrom (ended_by f c) w end tokens → LexesFrom f (mark g c ∷ w) end tokens
+pub blank_first : (f : Bool) (g : Goal) (c : ℕ) (w : List Mark) (end : Goal) (tokens : List Cut) → is_blank c ≡ true → CutsFrom (ended_by f c) w end tokens → CutsFrom f (mark g c ∷ w) end tokens
 blank_first f g c w end tokens b l = record {
   items = blank (mark g c) ∷ l.items;
   spells = ap (λ (v : List Mark). mark g c ∷ v) l.spells;
@@ -86,7 +86,7 @@ blank_first f g c w end tokens b l = record {
   gives = l.gives;
 }
 
-pub line_first : (f : Bool) (g : Goal) (d : Mark) (v : List Mark) (end : Goal) (tokens : List Lexeme) → d.character ≡ 47 → LineFrom f v end tokens → LexesFrom f (mark g 47 ∷ d ∷ v) end tokens
+pub line_first : (f : Bool) (g : Goal) (d : Mark) (v : List Mark) (end : Goal) (tokens : List Cut) → d.character ≡ 47 → LineFrom f v end tokens → CutsFrom f (mark g 47 ∷ d ∷ v) end tokens
 line_first f g d v end tokens e l = record {
   items = line (mark g 47) d l.comment ∷ l.further.items;
   spells = ap (λ (u : List Mark). mark g 47 ∷ d ∷ u) (l.spells ∙ ap (λ (u : List Mark). l.comment ++ u) l.further.spells);
@@ -94,7 +94,7 @@ line_first f g d v end tokens e l = record {
   gives = l.further.gives;
 }
 
-pub block_first : (f : Bool) (g : Goal) (d : Mark) (v : List Mark) (end : Goal) (tokens : List Lexeme) → d.character ≡ 42 → BlockFrom false f v end tokens → LexesFrom f (mark g 47 ∷ d ∷ v) end tokens
+pub block_first : (f : Bool) (g : Goal) (d : Mark) (v : List Mark) (end : Goal) (tokens : List Cut) → d.character ≡ 42 → BlockFrom false f v end tokens → CutsFrom f (mark g 47 ∷ d ∷ v) end tokens
 block_first f g d v end tokens e l = record {
   items = block (mark g 47) d l.comment ∷ l.further.items;
   spells = ap (λ (u : List Mark). mark g 47 ∷ d ∷ u) (l.spells ∙ ap (λ (u : List Mark). l.comment ++ u) l.further.spells);
@@ -109,7 +109,7 @@ stands_from g c k u r h longest free = record {
   free = free;
 }
 
-pub token_first : (f : Bool) (g : Goal) (c : ℕ) (w : List Mark) (end : Goal) (tokens : List Lexeme) → TokenFrom (first (asked w end) c) (c ∷ []) f w end tokens → LexesFrom f (mark g c ∷ w) end tokens
+pub token_first : (f : Bool) (g : Goal) (c : ℕ) (w : List Mark) (end : Goal) (tokens : List Cut) → TokenFrom (first (asked w end) c) (c ∷ []) f w end tokens → CutsFrom f (mark g c ∷ w) end tokens
 token_first f g c w end tokens h =
     let spells : w ≡ h.before ++ text h.further.items [] = h.spells ∙ ap (λ (v : List Mark). h.before ++ v) h.further.spells in
     record {
@@ -121,21 +121,23 @@ token_first f g c w end tokens h =
             (stands_from (asked w end) c h.kind (chars h.before) (chars h.after) h.completes h.longest h.free)),
         h.further.fits,
       );
-      gives = h.gives ∙ ap (λ (x : List Lexeme). record { token = token_of h.kind (c ∷ chars h.before); newline = f } ∷ x) h.further.gives;
+      gives = h.gives
+          ∙ ap (λ (x : List Cut). cut (token_of h.kind (c ∷ chars h.before)) f h.after ∷ x) h.further.gives
+          ∙ ap (λ (v : List Mark). cut (token_of h.kind (c ∷ chars h.before)) f v ∷ cuts false h.further.items) h.further.spells;
     }
 
-close : (f : Bool) (h : Goal) (c : ℕ) (w : List Mark) (end : Goal) (tokens : List Lexeme) → Opened f c w end tokens → LexesFrom f (mark h c ∷ w) end tokens
+close : (f : Bool) (h : Goal) (c : ℕ) (w : List Mark) (end : Goal) (tokens : List Cut) → Opened f c w end tokens → CutsFrom f (mark h c ∷ w) end tokens
 close f h c w end tokens (a_blank b l) = blank_first f h c w end tokens b l
 close f h c w end tokens (a_line d v e spells s l) =
-    subst (λ (x : ℕ). LexesFrom f (mark h x ∷ w) end tokens) (sym e)
-    (subst (λ (x : List Mark). LexesFrom f (mark h 47 ∷ x) end tokens) (sym spells) (line_first f h d v end tokens s l))
+    subst (λ (x : ℕ). CutsFrom f (mark h x ∷ w) end tokens) (sym e)
+    (subst (λ (x : List Mark). CutsFrom f (mark h 47 ∷ x) end tokens) (sym spells) (line_first f h d v end tokens s l))
 close f h c w end tokens (a_block d v e spells s l) =
-    subst (λ (x : ℕ). LexesFrom f (mark h x ∷ w) end tokens) (sym e)
-    (subst (λ (x : List Mark). LexesFrom f (mark h 47 ∷ x) end tokens) (sym spells) (block_first f h d v end tokens s l))
+    subst (λ (x : ℕ). CutsFrom f (mark h x ∷ w) end tokens) (sym e)
+    (subst (λ (x : List Mark). CutsFrom f (mark h 47 ∷ x) end tokens) (sym spells) (block_first f h d v end tokens s l))
 close f h c w end tokens (a_token t) = token_first f h c w end tokens t
 
 -- the first character may have come with another goal
-pub reread : (f : Bool) (g h : Goal) (c : ℕ) (w : List Mark) (end : Goal) (tokens : List Lexeme) → LexesFrom f (mark g c ∷ w) end tokens → LexesFrom f (mark h c ∷ w) end tokens
+pub reread : (f : Bool) (g h : Goal) (c : ℕ) (w : List Mark) (end : Goal) (tokens : List Cut) → CutsFrom f (mark g c ∷ w) end tokens → CutsFrom f (mark h c ∷ w) end tokens
 reread f g h c w end tokens l = close f h c w end tokens (opened f g c w end tokens l)
 
 -- no token begins with white space or a line terminator
@@ -148,7 +150,7 @@ blank_found c u b e = by_test (is_line_end c) (is_space c) b e
     by_test false true h k = absurd cc
     by_test false false h k = absurd cc
 
-pub no_blank : (g : Goal) (f : Bool) (c : ℕ) (w : List Mark) (end : Goal) (tokens : List Lexeme) → is_blank c ≡ true → TokenFrom (first g c) (c ∷ []) f w end tokens → ⊥
+pub no_blank : (g : Goal) (f : Bool) (c : ℕ) (w : List Mark) (end : Goal) (tokens : List Cut) → is_blank c ≡ true → TokenFrom (first g c) (c ∷ []) f w end tokens → ⊥
 no_blank g f c w end tokens b t =
     blank_found c (chars t.before ++ chars t.after) b
     (no_trivium g t.kind c (chars t.before) (chars t.after) (first_comes g t.kind c (chars t.before) t.completes) t.free)

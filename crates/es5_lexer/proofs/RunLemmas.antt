@@ -12,6 +12,7 @@ use Rattle.text_stream.specs.Classes.{class_in, class_of}
 use Rattle.es5_lexer.specs.Characters.{is_line_end, is_space, is_part, is_line_end_class, is_space_class, is_part_class}
 use Rattle.es5_lexer.specs.Strings.{quote_of, is_plain}
 use Rattle.es5_lexer.specs.Texts.{Mark, mark, chars, Lexes}
+use Rattle.es5_lexer.specs.Cuts.{Cut}
 use Rattle.es5_lexer.specs.Places.{next, is_dead}
 use Rattle.es5_lexer.specs.Residuals.{From, own, own_after, Steps, Leads}
 use Rattle.es5_lexer.specs.Letters.{with_letter, letter, HeardAt, Hears}
@@ -32,6 +33,7 @@ use Rattle.es5_lexer.specs.declared.places.Quote.TheVariants.{Double, Single}
 use Rattle.es5_lexer.proofs.Choices.{then_in, else_in, is_same, never, and_left, and_right, and_both, not_true, not_or}
 use Rattle.es5_lexer.proofs.ClassLemmas.{backslash}
 use Rattle.es5_lexer.proofs.TriviaLemmas.{blank_or}
+use Rattle.es5_lexer.proofs.CutLemmas.{going, coming}
 use Rattle.es5_lexer.proofs.OpenLemmas.{reread}
 use Rattle.es5_lexer.proofs.StepLemmas.{space_step, in_line_step, in_block_step}
 use Rattle.es5_lexer.proofs.TokenSteps.{token_step}
@@ -154,7 +156,7 @@ stay_reads v m given full g c e h s =
 
 -- whatever goal comes with the character
 
-stay_change : (s : State) (full : Bool) (d : ℕ) → Stays s full d → (read : List ℕ) (f : Bool) (g h : Goal) (c : ℕ) (w : List Mark) (end : Goal) (tokens : List Lexeme) → From s read f (mark g c ∷ w) end tokens → From s read f (mark h c ∷ w) end tokens
+stay_change : (s : State) (full : Bool) (d : ℕ) → Stays s full d → (read : List ℕ) (f : Bool) (g h : Goal) (c : ℕ) (w : List Mark) (end : Goal) (tokens : List Cut) → From s read f (mark g c ∷ w) end tokens → From s read f (mark h c ∷ w) end tokens
 stay_change Start full d x read f g h c w end tokens l = reread f g h c w end tokens l
 stay_change LineComment full d x read f g h c w end tokens l = line_change f g h c w end tokens l
 stay_change (BlockComment star) full d x read f g h c w end tokens l = block_change star f g h c w end tokens l
@@ -163,12 +165,9 @@ stay_change _ full d x read f g h c w end tokens l = absurd x
 
 stay_asks : (v : Lexer) (m : List Mark) (given : List Lexeme) (full : Bool) (d : ℕ) → Stays v.state full d → HasRead v m given → (g h : Goal) (c : ℕ) (w : List Mark) (end : Goal) (tokens : List Lexeme) → Lexes (m ++ mark g c ∷ w) end tokens → Lexes (m ++ mark h c ∷ w) end tokens
 stay_asks v m given full d s r g h c w end tokens l =
-    let x = r.residual.goes (mark g c ∷ w) end tokens l in
-    r.residual.comes (mark h c ∷ w) end tokens (record {
-      others = x.others;
-      is = x.is;
-      from = stay_change v.state full d s (own v.state r.read) v.newline g h c w end x.others x.from;
-    })
+    let x = going v m given r (mark g c ∷ w) end tokens l in
+    subst (λ (z : List Lexeme). Lexes (m ++ mark h c ∷ w) end z) (sym x.is)
+    (coming v m given r (mark h c ∷ w) end x.others (stay_change v.state full d s (own v.state r.read) v.newline g h c w end x.others x.from))
 
 -- all along a run
 

@@ -4,14 +4,14 @@ use Rattle.es5_lexer.specs.Characters.{is_start, is_start_class}
 use Rattle.es5_lexer.specs.Patterns.{IsBody}
 use Rattle.es5_lexer.specs.Trivia.{IsCommentRest}
 use Rattle.es5_lexer.specs.Tokens.{may_precede}
-use Rattle.es5_lexer.specs.Texts.{Mark, mark, chars, Item, blank, line, block, token, text, lexemes, LexesFrom}
+use Rattle.es5_lexer.specs.Texts.{Mark, mark, chars, Item, blank, line, block, token, text}
+use Rattle.es5_lexer.specs.Cuts.{Cut, cut, cuts, CutsFrom, cuts_at}
 use Rattle.es5_lexer.specs.Suits.{is_div}
 use Rattle.es5_lexer.specs.Places.{first, behind_slash, ended}
 use Rattle.es5_lexer.specs.Rests.{Rest}
 use Rattle.es5_lexer.specs.Reading.{token_of}
 use Rattle.es5_lexer.specs.Residuals.{onto, TokenFrom, LineFrom, BlockFrom, given_by, Steps, Ends}
 use Rattle.es5_lexer.specs.declared.tokens.Goal.{Goal}
-use Rattle.es5_lexer.specs.declared.tokens.Lexeme.{Lexeme}
 use Rattle.es5_lexer.specs.declared.tokens.Punct.{Punct}
 use Rattle.es5_lexer.specs.declared.tokens.Punct.TheVariants.{Slash as TheSlash}
 use Rattle.es5_lexer.specs.declared.places.Kind.{Kind}
@@ -62,7 +62,7 @@ pattern_no : (k : Kind) (c : ℕ) (u r v : List ℕ) → c ∷ v ≡ u ++ r → 
 pattern_no k c [] r v e h = absurd h.1
 pattern_no k c (d ∷ u) r v e h = let head : d ≡ c = cc in subst NoComment head (body_no d u h.1)
 
-slash_no : (g : Goal) (f : Bool) (c : ℕ) (h : Goal) (w : List Mark) (end : Goal) (tokens : List Lexeme) → TokenFrom (behind_slash g) (47 ∷ []) f (mark h c ∷ w) end tokens → NoComment c
+slash_no : (g : Goal) (f : Bool) (c : ℕ) (h : Goal) (w : List Mark) (end : Goal) (tokens : List Cut) → TokenFrom (behind_slash g) (47 ∷ []) f (mark h c ∷ w) end tokens → NoComment c
 slash_no g f c h w end tokens t = by_goal (split (λ (x : Place). Rest x t.kind (chars t.before)) (is_div g) _ _ t.completes)
   where
     spells : c ∷ chars w ≡ chars t.before ++ chars t.after
@@ -74,7 +74,7 @@ slash_no g f c h w end tokens t = by_goal (split (λ (x : Place). Rest x t.kind 
 
 -- a comment begins
 
-line_begins : (f : Bool) (g : Goal) (c : ℕ) (w : List Mark) (end : Goal) (tokens : List Lexeme) → (c == 47) ≡ true → Opened f 47 (mark g c ∷ w) end tokens → LineFrom f w end tokens
+line_begins : (f : Bool) (g : Goal) (c : ℕ) (w : List Mark) (end : Goal) (tokens : List Cut) → (c == 47) ≡ true → Opened f 47 (mark g c ∷ w) end tokens → LineFrom f w end tokens
 line_begins f g c w end tokens e (a_blank b _) = absurd (slash_no_blank 47 refl b)
 line_begins f g c w end tokens e (a_line d v _ spells _ l) =
     let tail : w ≡ v = cc in subst (λ (x : List Mark). LineFrom f x end tokens) (sym tail) l
@@ -90,7 +90,7 @@ comment_line_step read f g c e =
     (λ w end tokens h. line_begins f g c w end tokens e (opened f h.0 47 (mark g c ∷ w) end tokens h.1))
     (λ w end tokens h. (g, line_first f g (mark g c) w end tokens (is_same c 47 e) h))
 
-block_begins : (f : Bool) (g : Goal) (c : ℕ) (w : List Mark) (end : Goal) (tokens : List Lexeme) → (c == 42) ≡ true → Opened f 47 (mark g c ∷ w) end tokens → BlockFrom false f w end tokens
+block_begins : (f : Bool) (g : Goal) (c : ℕ) (w : List Mark) (end : Goal) (tokens : List Cut) → (c == 42) ≡ true → Opened f 47 (mark g c ∷ w) end tokens → BlockFrom false f w end tokens
 block_begins f g c w end tokens e (a_blank b _) = absurd (slash_no_blank 47 refl b)
 block_begins f g c w end tokens e (a_line d v _ spells s l) =
     let head : mark g c ≡ d = cc in
@@ -108,7 +108,7 @@ comment_block_step read f g c e =
 
 -- else the slash begins a token
 
-pub token_begins : (f : Bool) (g : Goal) (c : ℕ) (w : List Mark) (end : Goal) (tokens : List Lexeme) → (c == 47) ≡ false → (c == 42) ≡ false → Opened f 47 (mark g c ∷ w) end tokens → TokenFrom (behind_slash g) (47 ∷ []) f (mark g c ∷ w) end tokens
+pub token_begins : (f : Bool) (g : Goal) (c : ℕ) (w : List Mark) (end : Goal) (tokens : List Cut) → (c == 47) ≡ false → (c == 42) ≡ false → Opened f 47 (mark g c ∷ w) end tokens → TokenFrom (behind_slash g) (47 ∷ []) f (mark g c ∷ w) end tokens
 token_begins f g c w end tokens l b (a_blank x _) = absurd (slash_no_blank 47 refl x)
 token_begins f g c w end tokens l b (a_line d v _ spells s _) =
     let head : mark g c ≡ d = cc in
@@ -138,10 +138,10 @@ no_items (line a b q ∷ items) e = absurd cc
 no_items (block a b q ∷ items) e = absurd cc
 no_items (token t a q ∷ items) e = absurd cc
 
-pub no_tokens : (f : Bool) (g : Goal) (tokens : List Lexeme) → LexesFrom f [] g tokens → tokens ≡ []
-no_tokens f g tokens h = h.gives ∙ ap (lexemes f) (no_items h.items h.spells)
+pub no_tokens : (f : Bool) (g : Goal) (tokens : List Cut) → CutsFrom f [] g tokens → tokens ≡ []
+no_tokens f g tokens h = h.gives ∙ ap (cuts f) (no_items h.items h.spells)
 
-pub empty_lexes : (f : Bool) (g : Goal) → LexesFrom f [] g []
+pub empty_lexes : (f : Bool) (g : Goal) → CutsFrom f [] g []
 empty_lexes f g = record { items = []; spells = refl; fits = tt; gives = refl }
 
 pub start_end : (read : List ℕ) (f : Bool) (g : Goal) → Ends Start read f g true None
@@ -151,7 +151,7 @@ pub line_end : (read : List ℕ) (f : Bool) (g : Goal) → Ends LineComment read
 line_end read f g = record {
   goes = λ tokens h.
       let n = nothing h.comment h.after h.spells in
-      (refl, no_tokens f g tokens (subst (λ (v : List Mark). LexesFrom f v g tokens) n.1 h.further));
+      (refl, no_tokens f g tokens (subst (λ (v : List Mark). CutsFrom f v g tokens) n.1 h.further));
   comes = λ e. record { comment = []; after = []; spells = refl; is = refl; ends = tt; further = empty_lexes f g };
 }
 
@@ -171,12 +171,13 @@ last_token s read f g k e = record {
       let rest = subst (λ (v : List Mark). Rest s h.kind (chars v)) n.0 h.completes in
       let ends = ends_here s h.kind rest in
       let same : h.kind ≡ k = cc in
-      let none : h.others ≡ [] = no_tokens false g h.others (subst (λ (v : List Mark). LexesFrom false v g h.others) n.1 h.further) in (
+      let none : h.others ≡ [] = no_tokens false g h.others (subst (λ (v : List Mark). CutsFrom false v g h.others) n.1 h.further) in (
         refl,
         h.gives
-            ∙ ap (λ (v : List Mark). record { token = token_of h.kind (onto read (chars v)); newline = f } ∷ h.others) n.0
-            ∙ ap (λ (z : Kind). record { token = token_of z (onto read []); newline = f } ∷ h.others) same
-            ∙ ap (λ (z : List Lexeme). record { token = token_of k (onto read []); newline = f } ∷ z) none,
+            ∙ ap (λ (v : List Mark). cut (token_of h.kind (onto read (chars h.before))) f v ∷ h.others) n.1
+            ∙ ap (λ (v : List Mark). cut (token_of h.kind (onto read (chars v))) f [] ∷ h.others) n.0
+            ∙ ap (λ (z : Kind). cut (token_of z (onto read [])) f [] ∷ h.others) same
+            ∙ ap (λ (z : List Cut). cut (token_of k (onto read [])) f [] ∷ z) none,
       );
   comes = λ _. record {
     kind = k;
@@ -220,10 +221,10 @@ token_end s read f g whole given e same = by_ended (ended s) refl
 pub slash_end : (read : List ℕ) (f : Bool) (g : Goal) (whole : Bool) (given : Option Kind) → Ends (Token (behind_slash g)) (47 ∷ []) f g whole given → Ends Slash read f g whole given
 slash_end read f g whole given h = record {
   goes = λ tokens x. h.goes tokens (by_first tokens (opened f x.0 47 [] g tokens x.1));
-  comes = λ e. (g, token_first f g 47 [] g (given_by given (47 ∷ []) f) (subst (λ (y : Place). TokenFrom y (47 ∷ []) f [] g (given_by given (47 ∷ []) f)) (sym (first_slash g)) (h.comes e)));
+  comes = λ e. (g, token_first f g 47 [] g (cuts_at (given_by given (47 ∷ []) f) []) (subst (λ (y : Place). TokenFrom y (47 ∷ []) f [] g (cuts_at (given_by given (47 ∷ []) f) [])) (sym (first_slash g)) (h.comes e)));
 }
   where
-    by_first : (tokens : List Lexeme) → Opened f 47 [] g tokens → TokenFrom (behind_slash g) (47 ∷ []) f [] g tokens
+    by_first : (tokens : List Cut) → Opened f 47 [] g tokens → TokenFrom (behind_slash g) (47 ∷ []) f [] g tokens
     by_first tokens (a_blank b _) = absurd (slash_no_blank 47 refl b)
     by_first tokens (a_line d v _ e _ _) = absurd cc
     by_first tokens (a_block d v _ e _ _) = absurd cc

@@ -12,13 +12,13 @@ use Rattle.es5_lexer.specs.Names.{AreEscaped}
 use Rattle.es5_lexer.specs.Numbers.{is_exponent_mark, is_hex_mark}
 use Rattle.es5_lexer.specs.Trivia.{is_blank}
 use Rattle.es5_lexer.specs.Tokens.{is_barred, may_precede}
-use Rattle.es5_lexer.specs.Texts.{Mark, mark, chars, asked, LexesFrom}
+use Rattle.es5_lexer.specs.Texts.{Mark, mark, chars, asked}
+use Rattle.es5_lexer.specs.Cuts.{Cut, cut, CutsFrom}
 use Rattle.es5_lexer.specs.Places.{is_dot, longer, first, next, next_by, next_in_exponent, ended, is_dead}
 use Rattle.es5_lexer.specs.Rests.{NumberRest, Rest}
 use Rattle.es5_lexer.specs.Reading.{token_of}
 use Rattle.es5_lexer.specs.Residuals.{onto, TokenFrom, GoesOn, Steps}
 use Rattle.es5_lexer.specs.declared.tokens.Goal.{Goal}
-use Rattle.es5_lexer.specs.declared.tokens.Lexeme.{Lexeme}
 use Rattle.es5_lexer.specs.declared.tokens.Punct.{Punct}
 use Rattle.es5_lexer.specs.declared.places.Kind.{Kind}
 use Rattle.es5_lexer.specs.declared.places.Kind.TheVariants.{Name as AName, Punct as APunct, Number as ANumber, Pattern as APattern}
@@ -42,7 +42,7 @@ use Rattle.es5_lexer.proofs.StepLemmas.{quiet}
 
 -- the token at hand goes on by the character
 
-pub prepend : (s : Place) (read : List ℕ) (f : Bool) (g : Goal) (c : ℕ) (w : List Mark) (end : Goal) (tokens : List Lexeme) → TokenFrom (next s c) (c ∷ read) f w end tokens → TokenFrom s read f (mark g c ∷ w) end tokens
+pub prepend : (s : Place) (read : List ℕ) (f : Bool) (g : Goal) (c : ℕ) (w : List Mark) (end : Goal) (tokens : List Cut) → TokenFrom (next s c) (c ∷ read) f w end tokens → TokenFrom s read f (mark g c ∷ w) end tokens
 prepend s read f g c w end tokens h = record {
   kind = h.kind;
   before = mark g c ∷ h.before;
@@ -57,16 +57,16 @@ prepend s read f g c w end tokens h = record {
 }
 
 -- it has ended before the text
-pub record Ended (s : Place) (read : List ℕ) (f : Bool) (w : List Mark) (end : Goal) (tokens : List Lexeme) : Type 0 where
+pub record Ended (s : Place) (read : List ℕ) (f : Bool) (w : List Mark) (end : Goal) (tokens : List Cut) : Type 0 where
   pub kind : Kind
-  pub others : List Lexeme
+  pub others : List Cut
   pub completes : Rest s kind []
   pub longest : (a b : List ℕ) (k : Kind) → chars w ≡ a ++ b → Rest s k a → a ≡ []
   pub free : may_precede (token_of kind (onto read [])) (chars w) ≡ true
-  pub further : LexesFrom false w end others
-  pub gives : tokens ≡ record { token = token_of kind (onto read []); newline = f } ∷ others
+  pub further : CutsFrom false w end others
+  pub gives : tokens ≡ cut (token_of kind (onto read [])) f w ∷ others
 
-pub of_ended : (s : Place) (read : List ℕ) (f : Bool) (w : List Mark) (end : Goal) (tokens : List Lexeme) → Ended s read f w end tokens → TokenFrom s read f w end tokens
+pub of_ended : (s : Place) (read : List ℕ) (f : Bool) (w : List Mark) (end : Goal) (tokens : List Cut) → Ended s read f w end tokens → TokenFrom s read f w end tokens
 of_ended s read f w end tokens h = record {
   kind = h.kind;
   before = [];
@@ -80,11 +80,11 @@ of_ended s read f w end tokens h = record {
   gives = h.gives;
 }
 
-pub way : (s : Place) (read : List ℕ) (f : Bool) (g : Goal) (c : ℕ) (w : List Mark) (end : Goal) (tokens : List Lexeme) → TokenFrom s read f (mark g c ∷ w) end tokens → TokenFrom (next s c) (c ∷ read) f w end tokens ⊎ Ended s read f (mark g c ∷ w) end tokens
+pub way : (s : Place) (read : List ℕ) (f : Bool) (g : Goal) (c : ℕ) (w : List Mark) (end : Goal) (tokens : List Cut) → TokenFrom s read f (mark g c ∷ w) end tokens → TokenFrom (next s c) (c ∷ read) f w end tokens ⊎ Ended s read f (mark g c ∷ w) end tokens
 way s read f g c w end tokens h =
     by_before h.kind h.before h.after h.others h.spells h.completes h.longest h.free h.further h.gives
   where
-    by_mark : (k : Kind) (m : Mark) (p r : List Mark) (others : List Lexeme) → m.character ≡ c → w ≡ p ++ r → Rest s k (m.character ∷ chars p) → ((a b : List ℕ) (l : Kind) → chars r ≡ a ++ b → Rest s l (m.character ∷ (chars p ++ a)) → a ≡ []) → may_precede (token_of k (onto read (m.character ∷ chars p))) (chars r) ≡ true → LexesFrom false r end others → tokens ≡ record { token = token_of k (onto read (m.character ∷ chars p)); newline = f } ∷ others → TokenFrom (next s c) (c ∷ read) f w end tokens
+    by_mark : (k : Kind) (m : Mark) (p r : List Mark) (others : List Cut) → m.character ≡ c → w ≡ p ++ r → Rest s k (m.character ∷ chars p) → ((a b : List ℕ) (l : Kind) → chars r ≡ a ++ b → Rest s l (m.character ∷ (chars p ++ a)) → a ≡ []) → may_precede (token_of k (onto read (m.character ∷ chars p))) (chars r) ≡ true → CutsFrom false r end others → tokens ≡ cut (token_of k (onto read (m.character ∷ chars p))) f r ∷ others → TokenFrom (next s c) (c ∷ read) f w end tokens
     by_mark k m p r others same tail rest longest free further gives = record {
       kind = k;
       before = p;
@@ -95,18 +95,18 @@ way s read f g c w end tokens h =
       longest = λ a b l e i. longest a b l e (subst (λ (x : ℕ). Rest s l (x ∷ (chars p ++ a))) (sym same) (comes s l c (chars p ++ a) i));
       free = subst (λ (x : ℕ). may_precede (token_of k (onto read (x ∷ chars p))) (chars r) ≡ true) same free;
       further = further;
-      gives = subst (λ (x : ℕ). tokens ≡ record { token = token_of k (onto read (x ∷ chars p)); newline = f } ∷ others) same gives;
+      gives = subst (λ (x : ℕ). tokens ≡ cut (token_of k (onto read (x ∷ chars p))) f r ∷ others) same gives;
     }
 
-    by_before : (k : Kind) (p r : List Mark) (others : List Lexeme) → mark g c ∷ w ≡ p ++ r → Rest s k (chars p) → ((a b : List ℕ) (l : Kind) → chars r ≡ a ++ b → Rest s l (chars p ++ a) → a ≡ []) → may_precede (token_of k (onto read (chars p))) (chars r) ≡ true → LexesFrom false r end others → tokens ≡ record { token = token_of k (onto read (chars p)); newline = f } ∷ others → TokenFrom (next s c) (c ∷ read) f w end tokens ⊎ Ended s read f (mark g c ∷ w) end tokens
+    by_before : (k : Kind) (p r : List Mark) (others : List Cut) → mark g c ∷ w ≡ p ++ r → Rest s k (chars p) → ((a b : List ℕ) (l : Kind) → chars r ≡ a ++ b → Rest s l (chars p ++ a) → a ≡ []) → may_precede (token_of k (onto read (chars p))) (chars r) ≡ true → CutsFrom false r end others → tokens ≡ cut (token_of k (onto read (chars p))) f r ∷ others → TokenFrom (next s c) (c ∷ read) f w end tokens ⊎ Ended s read f (mark g c ∷ w) end tokens
     by_before k [] r others e rest longest free further gives = inr (record {
       kind = k;
       others = others;
       completes = rest;
       longest = λ a b l h i. longest a b l (ap chars (sym e) ∙ h) i;
       free = subst (λ (v : List Mark). may_precede (token_of k (onto read [])) (chars v) ≡ true) (sym e) free;
-      further = subst (λ (v : List Mark). LexesFrom false v end others) (sym e) further;
-      gives = gives;
+      further = subst (λ (v : List Mark). CutsFrom false v end others) (sym e) further;
+      gives = gives ∙ ap (λ (v : List Mark). cut (token_of k (onto read [])) f v ∷ others) (sym e);
     })
     by_before k (m ∷ p) r others e rest longest free further gives =
         let head : mark g c ≡ m = cc in let tail : w ≡ p ++ r = cc in
@@ -281,7 +281,7 @@ no_cons : (c : ℕ) (u : List ℕ) → c ∷ u ≡ [] → ⊥
 no_cons c u e = absurd cc
 
 -- a token that has ended doesn't go on
-pub must_go : (s : Place) (read : List ℕ) (f : Bool) (g : Goal) (c : ℕ) (w : List Mark) (end : Goal) (tokens : List Lexeme) → is_dead (next s c) ≡ false → Ended s read f (mark g c ∷ w) end tokens → ⊥
+pub must_go : (s : Place) (read : List ℕ) (f : Bool) (g : Goal) (c : ℕ) (w : List Mark) (end : Goal) (tokens : List Cut) → is_dead (next s c) ≡ false → Ended s read f (mark g c ∷ w) end tokens → ⊥
 must_go s read f g c w end tokens live h = by_way (further s c h.kind h.completes live)
   where
     by_escape : c ≡ 92 → ((u : List ℕ) → AreEscaped is_part u → (l : Kind) × Rest s l (c ∷ u)) → Opened false c w end h.others → ⊥
@@ -301,7 +301,7 @@ must_go s read f g c w end tokens live h = by_way (further s c h.kind h.complete
     by_way (inr (inr (e, goes_on))) = by_escape e goes_on (opened false g c w end h.others h.further)
 
 -- nothing goes on from where no token begins
-pub dead_from : (s : Place) (read : List ℕ) (f : Bool) (w : List Mark) (end : Goal) (tokens : List Lexeme) → is_dead s ≡ true → TokenFrom s read f w end tokens → ⊥
+pub dead_from : (s : Place) (read : List ℕ) (f : Bool) (w : List Mark) (end : Goal) (tokens : List Cut) → is_dead s ≡ true → TokenFrom s read f w end tokens → ⊥
 dead_from Dead read f w end tokens e h = h.completes
 dead_from _ read f w end tokens e h = absurd cc
 
@@ -344,17 +344,17 @@ end_step s read f g c k t flag dead e unbarred begins = record {
       });
 }
   where
-    given : (w : List Mark) (end : Goal) (tokens : List Lexeme) → Ended s read f (mark g c ∷ w) end tokens → GoesOn t (c ∷ []) flag (record { token = token_of k (onto read []); newline = f } ∷ []) w end tokens
+    given : (w : List Mark) (end : Goal) (tokens : List Cut) → Ended s read f (mark g c ∷ w) end tokens → GoesOn t (c ∷ []) flag (cut (token_of k (onto read [])) f (mark g c ∷ w) ∷ []) w end tokens
     given w end tokens x =
         let y = begins.goes w end x.others x.further in
         record {
           others = y.others;
-          is = x.gives ∙ ap (λ (z : Kind). record { token = token_of z (onto read []); newline = f } ∷ x.others) (same_kind s k x.kind e x.completes) ∙ ap (λ (z : List Lexeme). record { token = token_of k (onto read []); newline = f } ∷ z) y.is;
+          is = x.gives ∙ ap (λ (z : Kind). cut (token_of z (onto read [])) f (mark g c ∷ w) ∷ x.others) (same_kind s k x.kind e x.completes) ∙ ap (λ (z : List Cut). cut (token_of k (onto read [])) f (mark g c ∷ w) ∷ z) y.is;
           from = y.from;
         }
 
 -- no text goes on
-dead_steps : (s : Place) (read : List ℕ) (f : Bool) (g : Goal) (c : ℕ) (given : Option Kind) → ((w : List Mark) (end : Goal) (tokens : List Lexeme) → TokenFrom s read f (mark g c ∷ w) end tokens → ⊥) → Steps (Token s) read f g c given (Token Dead) false
+dead_steps : (s : Place) (read : List ℕ) (f : Bool) (g : Goal) (c : ℕ) (given : Option Kind) → ((w : List Mark) (end : Goal) (tokens : List Cut) → TokenFrom s read f (mark g c ∷ w) end tokens → ⊥) → Steps (Token s) read f g c given (Token Dead) false
 dead_steps s read f g c given none = record {
   goes = λ w end tokens h. absurd (none w end tokens h);
   comes = λ w end tokens h. absurd h.from.completes;

@@ -1,6 +1,7 @@
 -- What a lexer that is fed characters has read.
-use Rattle.std.specs.Prelude.{◌≡◌, ℕ, true, List, [], ◌∷◌, ◌++◌, ◌⊎◌}
-use Rattle.es5_lexer.specs.Texts.{Mark, mark, chars, Lexes}
+use Rattle.std.specs.Prelude.{◌≡◌, ℕ, true, false, List, [], ◌∷◌, ◌++◌, ◌⊎◌}
+use Rattle.es5_lexer.specs.Texts.{Mark, mark, chars}
+use Rattle.es5_lexer.specs.Cuts.{Cut, CutsFrom, lexemes_of}
 use Rattle.es5_lexer.specs.Begins.{IsFront, is_open_escape}
 use Rattle.es5_lexer.specs.Residuals.{GoesOn, own}
 use Rattle.es5_lexer.specs.Rests.{with_seen}
@@ -22,9 +23,9 @@ use Rattle.es5_lexer.specs.declared.lexer.Lexer.{Lexer}
 
 -- the residual of a lexer: a text goes on from its state exactly where the characters read and then
 -- that text have tokens, and these are those given and then those of the residual
-pub record Residual (value : Lexer) (read : List ℕ) (m : List Mark) (given : List Lexeme) : Type 0 where
-  pub goes : (w : List Mark) (end : Goal) (tokens : List Lexeme) → Lexes (m ++ w) end tokens → GoesOn value.state (own value.state read) value.newline given w end tokens
-  pub comes : (w : List Mark) (end : Goal) (tokens : List Lexeme) → GoesOn value.state (own value.state read) value.newline given w end tokens → Lexes (m ++ w) end tokens
+pub record Residual (value : Lexer) (read : List ℕ) (m : List Mark) (given : List Mark → List Cut) : Type 0 where
+  pub goes : (w : List Mark) (end : Goal) (tokens : List Cut) → CutsFrom false (m ++ w) end tokens → GoesOn value.state (own value.state read) value.newline (given w) w end tokens
+  pub comes : (w : List Mark) (end : Goal) (tokens : List Cut) → GoesOn value.state (own value.state read) value.newline (given w) w end tokens → CutsFrom false (m ++ w) end tokens
 
 -- the characters end in an escape of which so much is seen, and begin a text with tokens where a `$`
 -- stands in its place
@@ -67,7 +68,9 @@ Within seen _ = ⊥
 -- the lexer has read the characters, each under the goal that came with it, and given the tokens
 pub record HasRead (value : Lexer) (m : List Mark) (given : List Lexeme) : Type 0 where
   pub read : List ℕ
+  pub cuts : List Mark → List Cut
+  pub lexemes : (w : List Mark) → lexemes_of (cuts w) ≡ given
   pub heard : HeardAt value.letters value.state (own value.state read)
-  pub residual : Residual value read m given
+  pub residual : Residual value read m cuts
   pub escape : (host : Host) (seen : Seen) → value.state ≡ Token (Escape host seen) → EscapeAt seen m
   pub within : (seen : Seen) → EscapeAt seen m → Within seen value.state

@@ -9,6 +9,7 @@ pub mod Tokens
 pub mod Texts
 pub mod Suits
 pub mod Begins
+pub mod Cuts
 pub mod Places
 pub mod Rests
 pub mod Reading

@@ -4,7 +4,8 @@ use Rattle.std.specs.Prelude.{◌≡◌, ℕ, Bool, true, false, if◌then◌els
 use Rattle.es5_lexer.specs.Characters.{is_line_end}
 use Rattle.es5_lexer.specs.Trivia.{is_blank, is_line_comment, EndsLine, IsCommentRest}
 use Rattle.es5_lexer.specs.Tokens.{is_barred, may_precede}
-use Rattle.es5_lexer.specs.Texts.{Mark, mark, chars, ended_in, LexesFrom}
+use Rattle.es5_lexer.specs.Texts.{Mark, mark, chars, ended_in}
+use Rattle.es5_lexer.specs.Cuts.{Cut, cut, CutsFrom, cuts_at}
 use Rattle.es5_lexer.specs.Places.{first, next, ended, is_dead, behind_slash}
 use Rattle.es5_lexer.specs.Rests.{Rest}
 use Rattle.es5_lexer.specs.Reading.{token_of}
@@ -22,46 +23,46 @@ onto [] u = u
 onto (c ∷ read) u = onto read (c ∷ u)
 
 -- in a token: the rest of it, and then a text with tokens
-pub record TokenFrom (place : Place) (read : List ℕ) (newline : Bool) (w : List Mark) (end : Goal) (tokens : List Lexeme) : Type 0 where
+pub record TokenFrom (place : Place) (read : List ℕ) (newline : Bool) (w : List Mark) (end : Goal) (tokens : List Cut) : Type 0 where
   pub kind : Kind
   pub before : List Mark
   pub after : List Mark
-  pub others : List Lexeme
+  pub others : List Cut
   pub spells : w ≡ before ++ after
   pub completes : Rest place kind (chars before)
   pub longest : (a b : List ℕ) (k : Kind) → chars after ≡ a ++ b → Rest place k (chars before ++ a) → a ≡ []
   pub free : may_precede (token_of kind (onto read (chars before))) (chars after) ≡ true
-  pub further : LexesFrom false after end others
-  pub gives : tokens ≡ record { token = token_of kind (onto read (chars before)); newline = newline } ∷ others
+  pub further : CutsFrom false after end others
+  pub gives : tokens ≡ cut (token_of kind (onto read (chars before))) newline after ∷ others
 
 -- in a comment of one line
-pub record LineFrom (newline : Bool) (w : List Mark) (end : Goal) (tokens : List Lexeme) : Type 0 where
+pub record LineFrom (newline : Bool) (w : List Mark) (end : Goal) (tokens : List Cut) : Type 0 where
   pub comment : List Mark
   pub after : List Mark
   pub spells : w ≡ comment ++ after
   pub is : is_line_comment (chars comment) ≡ true
   pub ends : EndsLine (chars after)
-  pub further : LexesFrom newline after end tokens
+  pub further : CutsFrom newline after end tokens
 
 -- in a comment of several lines, behind a `*` or not
-pub record BlockFrom (star newline : Bool) (w : List Mark) (end : Goal) (tokens : List Lexeme) : Type 0 where
+pub record BlockFrom (star newline : Bool) (w : List Mark) (end : Goal) (tokens : List Cut) : Type 0 where
   pub comment : List Mark
   pub after : List Mark
   pub spells : w ≡ comment ++ after
   pub is : IsCommentRest star (chars comment)
-  pub further : LexesFrom (ended_in newline (chars comment)) after end tokens
+  pub further : CutsFrom (ended_in newline (chars comment)) after end tokens
 
 -- the residual of a state: the slash that is kept comes first again
-abbrev pub From : State → List ℕ → Bool → List Mark → Goal → List Lexeme → Type 0
-From Start read newline w end tokens = LexesFrom newline w end tokens
-From Slash read newline w end tokens = (g : Goal) × LexesFrom newline (mark g 47 ∷ w) end tokens
+abbrev pub From : State → List ℕ → Bool → List Mark → Goal → List Cut → Type 0
+From Start read newline w end tokens = CutsFrom newline w end tokens
+From Slash read newline w end tokens = (g : Goal) × CutsFrom newline (mark g 47 ∷ w) end tokens
 From LineComment read newline w end tokens = LineFrom newline w end tokens
 From (BlockComment star) read newline w end tokens = BlockFrom star newline w end tokens
 From (Token place) read newline w end tokens = TokenFrom place read newline w end tokens
 
 -- the text goes on from the state, and has these tokens with those that were given
-pub record GoesOn (s : State) (read : List ℕ) (newline : Bool) (given : List Lexeme) (w : List Mark) (end : Goal) (tokens : List Lexeme) : Type 0 where
-  pub others : List Lexeme
+pub record GoesOn (s : State) (read : List ℕ) (newline : Bool) (given : List Cut) (w : List Mark) (end : Goal) (tokens : List Cut) : Type 0 where
+  pub others : List Cut
   pub is : tokens ≡ given ++ others
   pub from : From s read newline w end others
 
@@ -83,13 +84,13 @@ given_by (Some k) read newline = record { token = token_of k (onto read []); new
 
 -- a character leads from a state to a state: what goes on from the first by it goes on from the second
 pub record Steps (s : State) (read : List ℕ) (newline : Bool) (g : Goal) (c : ℕ) (given : Option Kind) (t : State) (flag : Bool) : Type 0 where
-  pub goes : (w : List Mark) (end : Goal) (tokens : List Lexeme) → From s (own s read) newline (mark g c ∷ w) end tokens → GoesOn t (own_after given (own s read) c) flag (given_by given (own s read) newline) w end tokens
-  pub comes : (w : List Mark) (end : Goal) (tokens : List Lexeme) → GoesOn t (own_after given (own s read) c) flag (given_by given (own s read) newline) w end tokens → From s (own s read) newline (mark g c ∷ w) end tokens
+  pub goes : (w : List Mark) (end : Goal) (tokens : List Cut) → From s (own s read) newline (mark g c ∷ w) end tokens → GoesOn t (own_after given (own s read) c) flag (cuts_at (given_by given (own s read) newline) (mark g c ∷ w)) w end tokens
+  pub comes : (w : List Mark) (end : Goal) (tokens : List Cut) → GoesOn t (own_after given (own s read) c) flag (cuts_at (given_by given (own s read) newline) (mark g c ∷ w)) w end tokens → From s (own s read) newline (mark g c ∷ w) end tokens
 
 -- the end of the text in a state: whether it has tokens, and the last of them
 pub record Ends (s : State) (read : List ℕ) (newline : Bool) (g : Goal) (whole : Bool) (given : Option Kind) : Type 0 where
-  pub goes : (tokens : List Lexeme) → From s (own s read) newline [] g tokens → (whole ≡ true) × (tokens ≡ given_by given (own s read) newline)
-  pub comes : whole ≡ true → From s (own s read) newline [] g (given_by given (own s read) newline)
+  pub goes : (tokens : List Cut) → From s (own s read) newline [] g tokens → (whole ≡ true) × (tokens ≡ cuts_at (given_by given (own s read) newline) [])
+  pub comes : whole ≡ true → From s (own s read) newline [] g (cuts_at (given_by given (own s read) newline) [])
 
 -- no text goes on from the state
 abbrev pub is_dead_state : State → Bool

@@ -91,6 +91,17 @@ pub record LexesFrom (ended : Bool) (w : List Mark) (end : Goal) (tokens : List 
 abbrev pub Lexes : List Mark → Goal → List Lexeme → Type 0
 Lexes w end tokens = LexesFrom false w end tokens
 
+-- m and the rest behind it make a text with tokens, of which these are the first and end within m
+pub record EndWithin (m rest : List Mark) (end : Goal) (tokens : List Lexeme) : Type 0 where
+  pub items : List Item
+  pub gap : List Mark
+  pub others : List Item
+  pub splits : m ≡ text items gap
+  pub spells : gap ++ rest ≡ text others []
+  pub fits : Fit items (gap ++ rest) end
+  pub further : Fit others [] end
+  pub gives : tokens ≡ lexemes false items
+
 -- each item is what it says, a slash read in either way
 abbrev pub FitEither : List Item → List Mark → Type 0
 FitEither [] rest = Unit {0}

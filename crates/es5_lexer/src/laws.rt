@@ -1,6 +1,6 @@
 //! Laws of the definitions.
-ghost use Rattle.std.specs.Prelude.{◌≡◌, ℕ, List, ◌++◌, ◌↔◌};
-ghost use Rattle.es5_lexer.specs.Texts.{Mark, Lexes, LexesEither, HasReading, IsNextToken};
+ghost use Rattle.std.specs.Prelude.{◌≡◌, ℕ, List, [], ◌∷◌, ◌++◌, ◌↔◌};
+ghost use Rattle.es5_lexer.specs.Texts.{Mark, Lexes, EndWithin, LexesEither, HasReading, IsNextToken};
 ghost use Rattle.es5_lexer.specs.declared.tokens.Goal.{Goal};
 ghost use Rattle.es5_lexer.specs.declared.tokens.Lexeme.{Lexeme};
 ghost use Rattle.es5_lexer.specs.Lexing.{HasRead};
@@ -20,6 +20,12 @@ pub fn one_next_token()
 /// A text with these tokens, each slash read in either way, is one with these tokens under some goals.
 pub fn either_reading()
     ensures { (u : List ℕ) (tokens : List Lexeme) → LexesEither u tokens ↔ HasReading u tokens }
+{}
+
+/// A lexer has given all tokens that end before the last character it has read, in any text that goes on
+/// from there.
+pub fn ended_tokens_are_given()
+    ensures { (lexer : Lexer) (m : List Mark) (last : Mark) (given : List Lexeme) → HasRead lexer (m ++ last ∷ []) given → (w : List Mark) (end : Goal) (tokens : List Lexeme) → EndWithin m (last ∷ w) end tokens → (others : List Lexeme) × (given ≡ tokens ++ others) }
 {}
 
 /// What a lexer gave is a prefix of the tokens of every text that goes on from what it has read.

@@ -6,7 +6,7 @@
 ghost use Rattle.std.specs.Prelude.{◌≡◌, ◌≤◌, ℕ, true, List, [], ◌∷◌, ◌++◌, length, take, IsTrue, ◌↔◌};
 ghost use Rattle.std.specs.List.{list_all};
 ghost use Rattle.std.specs.Char.{is_ascii};
-ghost use Rattle.es5_lexer.specs.Texts.{Mark, mark, chars, Lexes};
+ghost use Rattle.es5_lexer.specs.Texts.{Mark, mark, chars, Lexes, EndWithin};
 ghost use Rattle.es5_lexer.specs.Suits.{Suits};
 ghost use Rattle.es5_lexer.specs.Begins.{Begins};
 ghost use Rattle.es5_lexer.specs.Lexing.{HasRead};
@@ -44,10 +44,12 @@ impl Lexer {
     }
 
     /// Reads one character more, and appends to `out` the token that has ended before it, if one has. A
-    /// slash is kept until the next character, whose goal says how it is read; no other goal counts.
+    /// slash is kept until the next character, whose goal says how it is read; no other goal counts. All
+    /// tokens that end before this character have been given then.
     pub fn feed_char(&mut self, goal: Goal, c: char, out: &mut ArrayVec<Lexeme, 2>)
         requires { out.old.items ≡ [] }
         ensures reads { (m : List Mark) (given : List Lexeme) → HasRead self.old m given → HasRead self.new (m ++ mark goal c ∷ []) (given ++ out.new.items) }
+        ensures at_least { (m : List Mark) (given : List Lexeme) → HasRead self.old m given → (w : List Mark) (end : Goal) (tokens : List Lexeme) → EndWithin m (mark goal c ∷ w) end tokens → (others : List Lexeme) × (given ++ out.new.items ≡ tokens ++ others) }
         ensures asks { (m : List Mark) (given : List Lexeme) → HasRead self.old m given → (other : Goal) (w : List Mark) (end : Goal) (tokens : List Lexeme) → Lexes (m ++ mark other c ∷ w) end tokens → Suits given goal tokens → Lexes (m ++ mark goal c ∷ w) end tokens }
     {
         let before = self.state;
@@ -91,6 +93,7 @@ impl Lexer {
         ensures within { result ≤ length piece.now }
         ensures ascii { list_all is_ascii (take result piece.now) ≡ true }
         ensures reads { (m : List Mark) (given : List Lexeme) → HasRead self.now m given → (q : List Mark) → chars q ≡ take result piece.now → HasRead self.now (m ++ q) given }
+        ensures at_least { (m : List Mark) (given : List Lexeme) → HasRead self.now m given → (q : List Mark) (last : Mark) → chars (q ++ last ∷ []) ≡ take result piece.now → (w : List Mark) (end : Goal) (tokens : List Lexeme) → EndWithin (m ++ q) (last ∷ w) end tokens → (others : List Lexeme) × (given ≡ tokens ++ others) }
         ensures asks { (m : List Mark) (given : List Lexeme) → HasRead self.now m given → (p q w : List Mark) → chars p ≡ take result piece.now → chars q ≡ take result piece.now → (end : Goal) (tokens : List Lexeme) → Lexes (m ++ (p ++ w)) end tokens → Lexes (m ++ (q ++ w)) end tokens }
     {
         run_length(staying(self.state, self.letters.is_full()), piece)

@@ -27,7 +27,9 @@ mod tests;
 mod tokens;
 mod trivia;
 
-pub use laws::{either_reading, given_tokens_stay, one_list_of_tokens, one_next_token};
+pub use laws::{
+    either_reading, ended_tokens_are_given, given_tokens_stay, one_list_of_tokens, one_next_token,
+};
 pub use lexer::Lexer;
 pub use next::{next_token, rest_is_trivia};
 pub use tokens::{Goal, Lexeme, Punct, Token, Word};

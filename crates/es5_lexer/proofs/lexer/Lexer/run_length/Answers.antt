@@ -1,4 +1,8 @@
 use Rattle.std.proofs.Common.{sym, ◌∙◌}
+use Rattle.std.proofs.Common.{List, [], ◌∷◌, ◌++◌, subst, append_assoc}
+use Rattle.es5_lexer.specs.Texts.{Mark}
+use Rattle.es5_lexer.specs.Lexing.{HasRead}
+use Rattle.es5_lexer.proofs.GivenLemmas.{ended_given}
 use Rattle.es5_lexer.proofs.RunLemmas.{run_reads, run_asks, run_stays, run_ascii, run_within}
 use Rattle.es5_lexer.proofs.lexer.Lexer.run_length.Goals as goal
 
@@ -12,6 +16,14 @@ pub returns-clause-reads : goal.returns-clause-reads
 returns-clause-reads c m given h q e =
     run_reads c.args.self.now given c.is_full.result c.is_full.ensures q m
     (run_stays _ _ _ c.args.piece.now _ c.run_length.result c.staying.ensures c.run_length.ensures e) h
+
+pub returns-clause-at_least : goal.returns-clause-at_least
+returns-clause-at_least c m given h q last e w end tokens x =
+    ended_given c.args.self.now (m ++ q) last given
+    (subst (λ (u : List Mark). HasRead c.args.self.now u given) (sym (append_assoc m q (last ∷ [])))
+    (run_reads c.args.self.now given c.is_full.result c.is_full.ensures (q ++ last ∷ []) m
+    (run_stays _ _ _ c.args.piece.now _ c.run_length.result c.staying.ensures c.run_length.ensures e) h))
+    w end tokens x
 
 pub returns-clause-asks : goal.returns-clause-asks
 returns-clause-asks c m given h p q w d e end tokens l =
