@@ -9,7 +9,7 @@ use Rattle.es5_lexer.specs.Suits.{is_div}
 use Rattle.es5_lexer.specs.Texts.{Mark, mark, chars, read_by, ended_in}
 use Rattle.es5_lexer.specs.Cuts.{Cut, cut, CutsFrom, lexemes_of}
 use Rattle.es5_lexer.specs.Places.{set_of, behind, is_dot, longer, first, behind_slash, behind_mark, mark as punct_of, next, next_by, next_in_parts, next_in_escape, ended, is_dead}
-use Rattle.es5_lexer.specs.Rests.{with_seen, Rest}
+use Rattle.es5_lexer.specs.PlaceResiduals.{with_seen, PlaceResidual}
 use Rattle.es5_lexer.specs.Reading.{token_of}
 use Rattle.es5_lexer.specs.Residuals.{onto, TokenFrom, From, own, Leads, LeadsFrom, is_dead_state}
 use Rattle.es5_lexer.specs.Lexing.{EscapeAt, Within, HasRead}
@@ -379,7 +379,7 @@ number_barred p k e f = by_rest (ended_rest (Number p) k e)
     second true h = absurd cc
     second false h = absurd cc
 
-    by_rest : Rest (Number p) k [] → ⊥
+    by_rest : PlaceResidual (Number p) k [] → ⊥
     by_rest r = second (is_start 92) (subst (λ (x : Kind). is_barred (token_of x []) 92 ≡ false) r.0 f)
 
 dollar : (p : Place) (read : List ℕ) (f : Bool) (g : Goal) (k : Kind) → ended p ≡ Some k → is_barred (token_of k []) 92 ≡ false → (tokens : List Cut) × TokenFrom p read f (mark g 36 ∷ []) g tokens
@@ -480,7 +480,7 @@ escape_step (Token p) read f m g c k host later h l =
 -- from where a lexer is alive a text goes on, or it is in an escape
 
 data Alive (p : Place) : Type 0 where
-  completes : (k : Kind) (u : List ℕ) → Rest p k u → Alive p
+  completes : (k : Kind) (u : List ℕ) → PlaceResidual p k u → Alive p
   escapes : (host : Host) (seen : Seen) → p ≡ Escape host seen → Alive p
 
 closed : (q : Quote) → IsStringRest q (quote_of q ∷ [])
@@ -523,14 +523,14 @@ alive (Pattern Flags) e = completes APattern [] (refl, tt)
 alive Dead e = absurd cc
 
 -- what is whole at the end
-whole_token : (p : Place) (read : List ℕ) (f : Bool) (k : Kind) (u : List ℕ) → Rest p k u → TokenFrom p read f (read_by Div u) Div (cut (token_of k (onto read (chars (read_by Div u)))) f [] ∷ [])
+whole_token : (p : Place) (read : List ℕ) (f : Bool) (k : Kind) (u : List ℕ) → PlaceResidual p k u → TokenFrom p read f (read_by Div u) Div (cut (token_of k (onto read (chars (read_by Div u)))) f [] ∷ [])
 whole_token p read f k u h = record {
   kind = k;
   before = read_by Div u;
   after = [];
   others = [];
   spells = sym (append-none (read_by Div u));
-  completes = subst (λ (v : List ℕ). Rest p k v) (sym (chars-read_by Div u)) h;
+  completes = subst (λ (v : List ℕ). PlaceResidual p k v) (sym (chars-read_by Div u)) h;
   longest = λ a b l e r. none_before a b e;
   free = refl;
   further = empty_lexes false Div;

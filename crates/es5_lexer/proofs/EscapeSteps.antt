@@ -12,7 +12,7 @@ use Rattle.es5_lexer.specs.Characters.{is_line_end, is_start, is_part, is_hex, i
 use Rattle.es5_lexer.specs.Tokens.{is_barred}
 use Rattle.es5_lexer.specs.Strings.{quote_of}
 use Rattle.es5_lexer.specs.Places.{set_of, is_dot, longer, next, next_by, next_in_parts, next_in_escape, next_in_chars, next_in_pattern, ended, is_dead}
-use Rattle.es5_lexer.specs.Rests.{Rest}
+use Rattle.es5_lexer.specs.PlaceResiduals.{PlaceResidual}
 use Rattle.es5_lexer.specs.Reading.{token_of}
 use Rattle.es5_lexer.specs.Residuals.{Leads, LeadsFrom, LeadsStart}
 use Rattle.es5_lexer.specs.Lexing.{text_place, Within}
@@ -280,8 +280,8 @@ mark_free _ = refl
 
 -- a `$` goes on with the token, or stands behind it
 pub data Takes (p : Place) (c : ℕ) : Type 0 where
-  on : (k : Kind) (u : List ℕ) → Rest p k (c ∷ u) → Takes p c
-  behind_it : (k : Kind) (u : List ℕ) → Rest p k [] → is_barred (token_of k u) c ≡ false → Takes p c
+  on : (k : Kind) (u : List ℕ) → PlaceResidual p k (c ∷ u) → Takes p c
+  behind_it : (k : Kind) (u : List ℕ) → PlaceResidual p k [] → is_barred (token_of k u) c ≡ false → Takes p c
 
 -- a backslash goes on with it to where an escape leaves it, or stands behind it
 pub data Opens (p : Place) : Type 0 where
@@ -298,8 +298,8 @@ no_digits : (host : Host) (seen : Seen) → Takes (Escape host seen) 36 → ⊥
 no_digits host seen (behind_it k u r _) = escape_open host seen r.1
 no_digits host seen (on k u r) = dead_rest (next_in_escape host seen 36) (escape_dollar host seen) k u (goes (Escape host seen) k 36 u r)
   where
-    dead_rest : (p : Place) → p ≡ Dead → (l : Kind) (v : List ℕ) → Rest p l v → ⊥
-    dead_rest p e l v x = subst (λ (y : Place). Rest y l v) e x
+    dead_rest : (p : Place) → p ≡ Dead → (l : Kind) (v : List ℕ) → PlaceResidual p l v → ⊥
+    dead_rest p e l v x = subst (λ (y : Place). PlaceResidual y l v) e x
 
     last_dollar : (h : Host) (a b d : ℕ) → is_escape_of (set_of h) a b d 36 ≡ false
     last_dollar h a b d = by_hex (is_hex a && is_hex b) (is_hex d) _
@@ -317,7 +317,7 @@ no_digits host seen (on k u r) = dead_rest (next_in_escape host seen 36) (escape
     escape_dollar h (ThreeDigits a b d) = else_in (λ (x : Place). x ≡ Dead) (is_escape_of (set_of h) a b d 36) _ _ (last_dollar h a b d) refl
 
 no_number : (p : NumberPlace) → Takes (Number p) 36 → ⊥
-no_number p (on k u r) = subst (λ (y : Place). Rest y k u) (number_dollar p) (goes (Number p) k 36 u r)
+no_number p (on k u r) = subst (λ (y : Place). PlaceResidual y k u) (number_dollar p) (goes (Number p) k 36 u r)
 no_number p (behind_it k u r f) =
     never (is_start 36) start_dollar (second (is_start 36) (subst (λ (x : Kind). is_barred (token_of x u) 36 ≡ false) r.0 f))
   where

@@ -10,7 +10,7 @@ use Rattle.es5_lexer.specs.Suits.{is_div}
 use Rattle.es5_lexer.specs.Punctuators.{spelling, is_under}
 use Rattle.es5_lexer.specs.Numbers.{is_nonzero, IsFraction, IsNumber}
 use Rattle.es5_lexer.specs.Places.{mark, by_equals, by_itself, longer, behind_slash, behind_mark, first}
-use Rattle.es5_lexer.specs.Rests.{IsKind, MarkRest, Rest}
+use Rattle.es5_lexer.specs.PlaceResiduals.{IsKind, MarkResidual, PlaceResidual}
 use Rattle.es5_lexer.specs.declared.tokens.Goal.{Goal}
 use Rattle.es5_lexer.specs.declared.tokens.Goal.TheVariants.{RegExp}
 use Rattle.es5_lexer.specs.declared.tokens.Punct.{Punct}
@@ -23,12 +23,12 @@ use Rattle.es5_lexer.proofs.Choices.{split, then_in, else_in, is_same}
 use Rattle.es5_lexer.proofs.ClassLemmas.{backslash, slash, double_quote, single_quote, point, digit}
 
 abbrev At : Kind → List ℕ → Place → Type 0
-At k u s = Rest s k u
+At k u s = PlaceResidual s k u
 
 -- what may come behind the first character of this text
 abbrev FirstRest : Goal → Punct → List ℕ → Type 0
 FirstRest g q [] = ⊥
-FirstRest g q (c ∷ u) = Rest (first g c) (APunct q) u
+FirstRest g q (c ∷ u) = PlaceResidual (first g c) (APunct q) u
 
 -- each punctuator, a character at a time
 whole : (g : Goal) (q : Punct) → is_under g q ≡ true → FirstRest g q (spelling q)
@@ -150,7 +150,7 @@ as_kind : (g : Goal) (k l : Kind) (w : List ℕ) → k ≡ l → IsKind g l w �
 as_kind g k l w e h = subst (λ (x : Kind). IsKind g x w) (sym e) h
 
 -- a punctuator and what completes it
-mark_whole : (g : Goal) (p : Punct) (k : Kind) (u w : List ℕ) → w ≡ spelling p ++ u → is_under g p ≡ true → MarkRest p k u → IsKind g k w
+mark_whole : (g : Goal) (p : Punct) (k : Kind) (u w : List ℕ) → w ≡ spelling p ++ u → is_under g p ≡ true → MarkResidual p k u → IsKind g k w
 mark_whole g p k [] w e f h = as_kind g k (APunct p) w h (e ∙ append-none (spelling p), f)
 mark_whole g p k (c ∷ u) w e f (inl (q, l, h)) =
     let s = longer_grown p c q l in
@@ -210,14 +210,14 @@ nonzero_digit : (c : ℕ) → is_nonzero c ≡ true → (is_digit c ≡ true) ×
 nonzero_digit c h = (grind (arith, nat_tests), grind (arith, nat_tests), grind (arith, nat_tests))
 
 -- at a character that is known
-at_first : (g : Goal) (k : Kind) (c n : ℕ) (u : List ℕ) → c ≡ n → Rest (first g n) k u → Rest (first g c) k u
-at_first g k c n u e h = subst (λ (x : ℕ). Rest (first g x) k u) (sym e) h
+at_first : (g : Goal) (k : Kind) (c n : ℕ) (u : List ℕ) → c ≡ n → PlaceResidual (first g n) k u → PlaceResidual (first g c) k u
+at_first g k c n u e h = subst (λ (x : ℕ). PlaceResidual (first g x) k u) (sym e) h
 
-point_goes : (g : Goal) (u : List ℕ) → IsFraction u → Rest (first g 46) ANumber u
+point_goes : (g : Goal) (u : List ℕ) → IsFraction u → PlaceResidual (first g 46) ANumber u
 point_goes g [] h = absurd h
 point_goes g (d ∷ u) h = else_in (At ANumber (d ∷ u)) (is_start 46) _ _ (ap is_start_class point) (inr (refl, h.0, refl, h.1))
 
-pub first_goes : (g : Goal) (k : Kind) (c : ℕ) (u : List ℕ) → IsKind g k (c ∷ u) → Rest (first g c) k u
+pub first_goes : (g : Goal) (k : Kind) (c : ℕ) (u : List ℕ) → IsKind g k (c ∷ u) → PlaceResidual (first g c) k u
 first_goes g AName c u (inl (s, p)) = then_in (At AName u) (is_start c) _ _ s (refl, p)
 first_goes g AName c u (inr (e, p)) =
     at_first g AName c 92 u e (else_in (At AName u) (is_start 92) _ _ (ap is_start_class backslash) (refl, p))
@@ -239,20 +239,20 @@ first_goes g APattern c u (d, (e, h)) =
     (else_in (At APattern u) (is_start 47) _ _ (ap is_start_class slash)
     (else_in (At APattern u) (is_div g) _ _ d (refl, h)))
 
-slash_comes : (g : Goal) (k : Kind) (c : ℕ) (u : List ℕ) → c ≡ 47 → Rest (behind_slash g) k u → IsKind g k (c ∷ u)
+slash_comes : (g : Goal) (k : Kind) (c : ℕ) (u : List ℕ) → c ≡ 47 → PlaceResidual (behind_slash g) k u → IsKind g k (c ∷ u)
 slash_comes g k c u e h =
     elim (split (At k u) (is_div g) _ _ h) [
       | inl (d, r) ↦ mark_whole g Slash k u (c ∷ u) (ap (λ (x : ℕ). x ∷ u) e) d r
       | inr (d, (f, r)) ↦ as_kind g k APattern (c ∷ u) f (d, (e, r))
     ]
 
-mark_comes : (g : Goal) (k : Kind) (c : ℕ) (u : List ℕ) (o : Option Punct) → mark c ≡ o → Rest (behind_mark o) k u → IsKind g k (c ∷ u)
+mark_comes : (g : Goal) (k : Kind) (c : ℕ) (u : List ℕ) (o : Option Punct) → mark c ≡ o → PlaceResidual (behind_mark o) k u → IsKind g k (c ∷ u)
 mark_comes g k c u (Some p) e h =
     let s = mark_single c p e in
     mark_whole g p k u (c ∷ u) (ap (λ (x : List ℕ). x ++ u) (sym s.0)) (under_both g p s.1) h
 mark_comes g k c u None e h = absurd h
 
-pub first_comes : (g : Goal) (k : Kind) (c : ℕ) (u : List ℕ) → Rest (first g c) k u → IsKind g k (c ∷ u)
+pub first_comes : (g : Goal) (k : Kind) (c : ℕ) (u : List ℕ) → PlaceResidual (first g c) k u → IsKind g k (c ∷ u)
 first_comes g k c u h =
     elim (split (At k u) (is_start c) _ _ h) [
       | inl (t, (e, r)) ↦ as_kind g k AName (c ∷ u) e (inl (t, r))

@@ -5,7 +5,7 @@ use Rattle.std.proofs.lemmas.Bool.Decides.{nat_tests}
 use Rattle.es5_lexer.specs.Characters.{is_line_end, is_part, is_start, is_hex, escaped, is_escape_of, is_part_class, is_start_class}
 use Rattle.es5_lexer.specs.Names.{AreParts, IsName, spelled, spelled_escape, spelled_with, is_escaped, reserved_words, word_in, word_of, ident_of, token_by, name_token}
 use Rattle.es5_lexer.specs.Places.{set_of, first, next, is_dead, behind_slash}
-use Rattle.es5_lexer.specs.Rests.{IsKind, kind_in, with_seen, EscapeRest, MarkRest, Rest}
+use Rattle.es5_lexer.specs.PlaceResiduals.{IsKind, kind_in, with_seen, EscapeResidual, MarkResidual, PlaceResidual}
 use Rattle.es5_lexer.specs.Residuals.{onto, own, own_after, Leads, LeadsFrom, LeadsStart, is_dead_state, is_name_place, is_in_name}
 use Rattle.es5_lexer.specs.Letters.{kept_letter, kept, with_letter, letter, ends_escape, token_of_letters, spelled_from, escaped_from, Spells, Hears, HeardAt}
 use Rattle.es5_lexer.specs.declared.tokens.Goal.{Goal}
@@ -36,12 +36,12 @@ use Rattle.es5_lexer.proofs.TokenSteps.{first_backslash}
 
 -- names stand at the places of names alone
 
-mark_no_name : (p : Punct) (u : List ℕ) → MarkRest p AName u → ⊥
+mark_no_name : (p : Punct) (u : List ℕ) → MarkResidual p AName u → ⊥
 mark_no_name p [] h = absurd cc
 mark_no_name p (c ∷ u) (inl (q, e, h)) = mark_no_name q u h
 mark_no_name p (c ∷ u) (inr (_, _, e, _)) = absurd cc
 
-pub no_name : (p : Place) (u : List ℕ) → is_name_place p ≡ false → Rest p AName u → ⊥
+pub no_name : (p : Place) (u : List ℕ) → is_name_place p ≡ false → PlaceResidual p AName u → ⊥
 no_name Name u e h = absurd cc
 no_name (Escape host seen) u e h = absurd cc
 no_name (AtMark p) u e h = mark_no_name p u h
@@ -133,7 +133,7 @@ digit_letter : (host : Host) (seen later : Seen) (c : ℕ) (u : List ℕ) (b : B
 digit_letter host seen later c u true e f = (f, refl)
 digit_letter host seen later c u false e f = absurd cc
 
-escape_letter : (host : Host) (seen : Seen) (c : ℕ) (u : List ℕ) → AName ≡ kind_in host → EscapeRest host seen (c ∷ u) → Letter (Escape host seen) c u
+escape_letter : (host : Host) (seen : Seen) (c : ℕ) (u : List ℕ) → AName ≡ kind_in host → EscapeResidual host seen (c ∷ u) → Letter (Escape host seen) c u
 unfolding before
 escape_letter host EscapeMark c u k h =
     let e = mark_is (set_of host) c u h in
@@ -150,7 +150,7 @@ escape_letter host (TwoDigits a b) c u k h =
     record { spells = d.0; marks = d.1 }
 escape_letter host (ThreeDigits a b d) c u k h = last_letter host a b d c u (escaped a b d c) k h.1 refl
 
-letter_of : (s : Place) (c : ℕ) (u : List ℕ) → Rest s AName (c ∷ u) → Letter s c u
+letter_of : (s : Place) (c : ℕ) (u : List ℕ) → PlaceResidual s AName (c ∷ u) → Letter s c u
 letter_of Name c u h = name_letter c u h.1
 letter_of (Escape host seen) c u h = escape_letter host seen c u h.0 h.1
 letter_of (AtMark p) c u h = absurd (mark_no_name p (c ∷ u) h)
@@ -283,7 +283,7 @@ or_none : (b : Bool) → (b || false) ≡ b
 or_none true = refl
 or_none false = refl
 
-pub heard_token : (l : List ℕ) (e : Bool) (p : Place) (read : List ℕ) → Hears l e p read → Rest p AName [] → token_of_letters e l ≡ name_token (onto read [])
+pub heard_token : (l : List ℕ) (e : Bool) (p : Place) (read : List ℕ) → Hears l e p read → PlaceResidual p AName [] → token_of_letters e l ≡ name_token (onto read [])
 heard_token l e Name read h r =
     let s = h [] r in
     let v : List ℕ = onto read [] in
@@ -300,7 +300,7 @@ heard_token l e Dead read h r = absurd r
 
 -- along the steps of a lexer
 
-dead_no_name : (p : Place) (u : List ℕ) → is_dead p ≡ true → Rest p AName u → ⊥
+dead_no_name : (p : Place) (u : List ℕ) → is_dead p ≡ true → PlaceResidual p AName u → ⊥
 dead_no_name Dead u e h = h
 dead_no_name _ u e h = absurd cc
 
@@ -343,10 +343,10 @@ after_token new s g c k t x (inl e) = starts_at new g c t x e.2
 after_token new s g c k t x (inr d) = heard_dead new t (c ∷ []) d.1
 
 -- no name begins with a slash
-pub slash_no_name : (g : Goal) (u : List ℕ) → Rest (behind_slash g) AName u → ⊥
+pub slash_no_name : (g : Goal) (u : List ℕ) → PlaceResidual (behind_slash g) AName u → ⊥
 slash_no_name g u r = by_half (is_div g) r
   where
-    by_half : (b : Bool) → Rest (if b then AtMark TheSlash else Pattern BodyStart) AName u → ⊥
+    by_half : (b : Bool) → PlaceResidual (if b then AtMark TheSlash else Pattern BodyStart) AName u → ⊥
     by_half true h = mark_no_name TheSlash u h
     by_half false (k, h) = absurd cc
 
@@ -421,14 +421,14 @@ pub record NameFrom (l : Letters) (place : Place) (rest text : List ℕ) : Type 
   pub read : List ℕ
   pub hears : Hears l.letters.items l.escapes place read
   pub whole : onto read rest ≡ text
-  pub completes : Rest place AName rest
+  pub completes : PlaceResidual place AName rest
 
 pub name_begins : (l : Letters) (g : Goal) (c : ℕ) (q : Place) (u : List ℕ) → Begins l c → q ≡ first g c → IsName (c ∷ u) → NameFrom l q u (c ∷ u)
 name_begins l g c q u x e h = record {
   read = c ∷ [];
   hears = begins_at l g c q x e;
   whole = refl;
-  completes = subst (λ (p : Place). Rest p AName u) (sym e) (first_goes g AName c u h);
+  completes = subst (λ (p : Place). PlaceResidual p AName u) (sym e) (first_goes g AName c u h);
 }
 
 pub name_goes : (l m : Letters) (p q : Place) (c : ℕ) (u text : List ℕ) → NameFrom l p (c ∷ u) text → Reads l m p c → q ≡ next p c → NameFrom m q u text
@@ -436,7 +436,7 @@ name_goes l m p q c u text h x e = record {
   read = c ∷ h.read;
   hears = subst (λ (y : Place). Hears m.letters.items m.escapes y (c ∷ h.read)) (sym e) (goes_on l.letters.items l.escapes p h.read c m.letters.items m.escapes x.letters x.escapes h.hears);
   whole = h.whole;
-  completes = subst (λ (y : Place). Rest y AName u) (sym e) (goes p AName c u h.completes);
+  completes = subst (λ (y : Place). PlaceResidual y AName u) (sym e) (goes p AName c u h.completes);
 }
 
 pub name_ends : (l : Letters) (p : Place) (text : List ℕ) → NameFrom l p [] text → token_of_letters l.escapes l.letters.items ≡ name_token text

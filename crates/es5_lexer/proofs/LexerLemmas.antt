@@ -6,7 +6,7 @@ use Rattle.es5_lexer.specs.Texts.{Mark, mark, chars, ended_in, Lexes}
 use Rattle.es5_lexer.specs.Cuts.{Cut, CutsFrom, lexemes_of, cuts_at}
 use Rattle.es5_lexer.specs.Suits.{is_div, suits, Suits}
 use Rattle.es5_lexer.specs.Places.{next, ended, behind_slash}
-use Rattle.es5_lexer.specs.Rests.{MarkRest, Rest}
+use Rattle.es5_lexer.specs.PlaceResiduals.{MarkResidual, PlaceResidual}
 use Rattle.es5_lexer.specs.Reading.{token_of}
 use Rattle.es5_lexer.specs.Residuals.{onto, TokenFrom, LineFrom, BlockFrom, From, GoesOn, own, own_after, given_by, Steps, Ends, EndsAs, Leads, LeadsFrom, is_dead_state}
 use Rattle.es5_lexer.specs.Letters.{Hears, HeardAt, token_of_kind, given_lexemes}
@@ -234,24 +234,24 @@ token_change p read f g h c w end tokens x = by_way (way p read f g c w end toke
 
 -- the goal that suits a token that begins with a slash is its own
 
-slash_marks : (k : Kind) (u : List ℕ) → MarkRest TheSlash k u → (k ≡ APunct TheSlash) ⊎ (k ≡ APunct SlashAssign)
+slash_marks : (k : Kind) (u : List ℕ) → MarkResidual TheSlash k u → (k ≡ APunct TheSlash) ⊎ (k ≡ APunct SlashAssign)
 slash_marks k [] h = inl h
 slash_marks k (c ∷ u) (inr (e, _, _, _)) = absurd cc
 slash_marks k (c ∷ u) (inl (q, e, h)) =
     elim (split (λ (o : Option Punct). o ≡ Some q) (c == 61) _ _ e) [
-      | inl (_, f) ↦ let same : q ≡ SlashAssign = cc in inr (assign u (subst (λ (x : Punct). MarkRest x k u) same h))
+      | inl (_, f) ↦ let same : q ≡ SlashAssign = cc in inr (assign u (subst (λ (x : Punct). MarkResidual x k u) same h))
       | inr (_, f) ↦ absurd cc
     ]
   where
-    assign : (v : List ℕ) → MarkRest SlashAssign k v → k ≡ APunct SlashAssign
+    assign : (v : List ℕ) → MarkResidual SlashAssign k v → k ≡ APunct SlashAssign
     assign [] i = i
     assign (d ∷ v) (inr (f, _, _, _)) = absurd cc
     assign (d ∷ v) (inl (r, f, i)) =
         elim (split (λ (o : Option Punct). o ≡ Some r) (d == 61) _ _ f) [ inl (_, x) ↦ absurd cc | inr (_, x) ↦ absurd cc ]
 
-slash_half : (other goal : Goal) (k : Kind) (u v : List ℕ) → Rest (behind_slash other) k u → suits (token_of k v) goal ≡ true → is_div goal ≡ is_div other
+slash_half : (other goal : Goal) (k : Kind) (u v : List ℕ) → PlaceResidual (behind_slash other) k u → suits (token_of k v) goal ≡ true → is_div goal ≡ is_div other
 slash_half other goal k u v r s =
-    elim (split (λ (p : Place). Rest p k u) (is_div other) _ _ r) [
+    elim (split (λ (p : Place). PlaceResidual p k u) (is_div other) _ _ r) [
       | inl (d, h) ↦ by_mark d (slash_marks k u h)
       | inr (d, (e, _)) ↦ not_true (is_div goal) (subst (λ (x : Kind). suits (token_of x v) goal ≡ true) e s) ∙ sym d
     ]

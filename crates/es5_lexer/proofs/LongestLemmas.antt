@@ -3,7 +3,7 @@
 use Rattle.std.proofs.Common.{◌≡◌, ℕ, suc, ◌≤◌, true, Option, Some, None, List, [], ◌∷◌, ◌++◌, length, refl, sym, ap, subst, ◌∙◌, arith}
 use Rattle.es5_lexer.specs.Places.{first, next, ended, is_dead}
 use Rattle.es5_lexer.specs.Reading.{better, longest_from, longest_token}
-use Rattle.es5_lexer.specs.Rests.{IsKind, Rest}
+use Rattle.es5_lexer.specs.PlaceResiduals.{IsKind, PlaceResidual}
 use Rattle.es5_lexer.specs.declared.tokens.Goal.{Goal}
 use Rattle.es5_lexer.specs.declared.places.Kind.{Kind}
 use Rattle.es5_lexer.specs.declared.places.Place.{Place}
@@ -26,7 +26,7 @@ dead_found s best u h = ap (λ (x : Place). longest_from x best u) (dead_is s h)
 
 -- no text of the front completes a token at the place
 abbrev Nothing : Place → List ℕ → Type 0
-Nothing s u = (a b : List ℕ) (k : Kind) → u ≡ a ++ b → Rest s k a → ⊥
+Nothing s u = (a b : List ℕ) (k : Kind) → u ≡ a ++ b → PlaceResidual s k a → ⊥
 
 -- a text of the front completes a token, and none that is longer does
 record Something (s : Place) (u : List ℕ) (x : Longest) : Type 0 where
@@ -34,8 +34,8 @@ record Something (s : Place) (u : List ℕ) (x : Longest) : Type 0 where
   pub rest : List ℕ
   pub splits : u ≡ front ++ rest
   pub left : x.left ≡ length rest
-  pub completes : Rest s x.kind front
-  pub most : (a b : List ℕ) (k : Kind) → u ≡ a ++ b → Rest s k a → length a ≤ length front
+  pub completes : PlaceResidual s x.kind front
+  pub most : (a b : List ℕ) (k : Kind) → u ≡ a ++ b → PlaceResidual s k a → length a ≤ length front
 
 -- what a walk finds from a place on, where the best so far was another's
 data Outcome (s : Place) (prior : Option Longest) (u : List ℕ) (found : Option Longest) : Type 0 where
@@ -52,11 +52,11 @@ behind s c u x h = record {
   most = most_of;
 }
   where
-    most_of : (a b : List ℕ) (k : Kind) → c ∷ u ≡ a ++ b → Rest s k a → length a ≤ length (c ∷ h.front)
+    most_of : (a b : List ℕ) (k : Kind) → c ∷ u ≡ a ++ b → PlaceResidual s k a → length a ≤ length (c ∷ h.front)
     most_of [] b k e r = omega arith
     most_of (d ∷ a) b k e r =
         let head : c ≡ d = cc in let tail : u ≡ a ++ b = cc in
-        let fewer = h.most a b k tail (goes s k c a (subst (λ (x : ℕ). Rest s k (x ∷ a)) (sym head) r)) in
+        let fewer = h.most a b k tail (goes s k c a (subst (λ (x : ℕ). PlaceResidual s k (x ∷ a)) (sym head) r)) in
         omega arith
 
 here : (s : Place) (c : ℕ) (u : List ℕ) (k : Kind) → ended s ≡ Some k → Nothing (next s c) u → Something s (c ∷ u) (record { kind = k; left = length (c ∷ u) })
@@ -69,17 +69,17 @@ here s c u k e none = record {
   most = most_of;
 }
   where
-    most_of : (a b : List ℕ) (l : Kind) → c ∷ u ≡ a ++ b → Rest s l a → length a ≤ 0
+    most_of : (a b : List ℕ) (l : Kind) → c ∷ u ≡ a ++ b → PlaceResidual s l a → length a ≤ 0
     most_of [] b l f r = omega arith
     most_of (d ∷ a) b l f r =
         let head : c ≡ d = cc in let tail : u ≡ a ++ b = cc in
-        absurd (none a b l tail (goes s l c a (subst (λ (x : ℕ). Rest s l (x ∷ a)) (sym head) r)))
+        absurd (none a b l tail (goes s l c a (subst (λ (x : ℕ). PlaceResidual s l (x ∷ a)) (sym head) r)))
 
 nowhere : (s : Place) (c : ℕ) (u : List ℕ) → ended s ≡ None → Nothing (next s c) u → Nothing s (c ∷ u)
 nowhere s c u e none [] b k f r = let g = ends_here s k r in absurd cc
 nowhere s c u e none (d ∷ a) b k f r =
     let head : c ≡ d = cc in let tail : u ≡ a ++ b = cc in
-    none a b k tail (goes s k c a (subst (λ (x : ℕ). Rest s k (x ∷ a)) (sym head) r))
+    none a b k tail (goes s k c a (subst (λ (x : ℕ). PlaceResidual s k (x ∷ a)) (sym head) r))
 
 at_end : (s : Place) (prior : Option Longest) (o : Option Kind) → ended s ≡ o → Outcome s prior [] (better o [] prior)
 at_end s prior (Some k) e =
@@ -97,7 +97,7 @@ at_end s prior (Some k) e =
     none_before (c ∷ a) b f = absurd cc
 at_end s prior None e = same refl (λ a b k f r. no_rest a b k f r)
   where
-    no_rest : (a b : List ℕ) (k : Kind) → [] ≡ a ++ b → Rest s k a → ⊥
+    no_rest : (a b : List ℕ) (k : Kind) → [] ≡ a ++ b → PlaceResidual s k a → ⊥
     no_rest [] b k f r = let g = ends_here s k r in absurd cc
     no_rest (c ∷ a) b k f r = absurd cc
 

@@ -8,7 +8,7 @@ use Rattle.es5_lexer.specs.Texts.{Mark, mark, chars, asked, Item, blank, line, b
 use Rattle.es5_lexer.specs.Cuts.{Cut, cut, cuts, CutsFrom}
 use Rattle.es5_lexer.specs.Reading.{trivium_with, comment, leading_trivium, token_of}
 use Rattle.es5_lexer.specs.Places.{mark as punct_of, behind_slash, behind_mark, first}
-use Rattle.es5_lexer.specs.Rests.{Rest}
+use Rattle.es5_lexer.specs.PlaceResiduals.{PlaceResidual}
 use Rattle.es5_lexer.specs.Residuals.{TokenFrom, LineFrom, BlockFrom}
 use Rattle.es5_lexer.specs.declared.tokens.Goal.{Goal}
 use Rattle.es5_lexer.specs.declared.tokens.Token.{Token as AToken}
@@ -102,7 +102,7 @@ block_first f g d v end tokens e l = record {
   gives = l.further.gives;
 }
 
-stands_from : (g : Goal) (c : ℕ) (k : Kind) (u r : List ℕ) → Rest (first g c) k u → ((a b : List ℕ) (l : Kind) → r ≡ a ++ b → Rest (first g c) l (u ++ a) → a ≡ []) → may_precede (token_of k (c ∷ u)) r ≡ true → Stands g (token_of k (c ∷ u)) (c ∷ u) r
+stands_from : (g : Goal) (c : ℕ) (k : Kind) (u r : List ℕ) → PlaceResidual (first g c) k u → ((a b : List ℕ) (l : Kind) → r ≡ a ++ b → PlaceResidual (first g c) l (u ++ a) → a ≡ []) → may_precede (token_of k (c ∷ u)) r ≡ true → Stands g (token_of k (c ∷ u)) (c ∷ u) r
 stands_from g c k u r h longest free = record {
   is = kind_token g k (c ∷ u) (first_comes g k c u h);
   longest = λ a b t e i. let l = token_kind g t (c ∷ (u ++ a)) i in longest a b l.kind e (first_goes g l.kind c (u ++ a) l.is);

@@ -8,7 +8,7 @@ use Rattle.es5_lexer.specs.Texts.{Mark, mark, chars, Item, blank, line, block, t
 use Rattle.es5_lexer.specs.Cuts.{Cut, cut, cuts, CutsFrom, cuts_at}
 use Rattle.es5_lexer.specs.Suits.{is_div}
 use Rattle.es5_lexer.specs.Places.{first, behind_slash, ended}
-use Rattle.es5_lexer.specs.Rests.{Rest}
+use Rattle.es5_lexer.specs.PlaceResiduals.{PlaceResidual}
 use Rattle.es5_lexer.specs.Reading.{token_of}
 use Rattle.es5_lexer.specs.Residuals.{onto, TokenFrom, LineFrom, BlockFrom, given_by, Steps, Ends}
 use Rattle.es5_lexer.specs.declared.tokens.Goal.{Goal}
@@ -36,7 +36,7 @@ record NoComment (c : ℕ) : Type 0 where
   pub line : (c == 47) ≡ false
   pub block : (c == 42) ≡ false
 
-division_no : (k : Kind) (c : ℕ) (u r : List ℕ) (v : List ℕ) → c ∷ v ≡ u ++ r → Rest (AtMark TheSlash) k u → may_precede (token_of k (47 ∷ u)) r ≡ true → NoComment c
+division_no : (k : Kind) (c : ℕ) (u r : List ℕ) (v : List ℕ) → c ∷ v ≡ u ++ r → PlaceResidual (AtMark TheSlash) k u → may_precede (token_of k (47 ∷ u)) r ≡ true → NoComment c
 division_no k c [] [] v e h f = absurd cc
 division_no k c [] (d ∷ r) v e h f =
     let head : d ≡ c = cc in
@@ -58,17 +58,17 @@ body_no c u (inl (p, h)) =
 body_no c u (inr (inl (e, h))) = record { line = ap (λ (x : ℕ). x == 47) e; block = ap (λ (x : ℕ). x == 42) e }
 body_no c u (inr (inr (e, h))) = record { line = ap (λ (x : ℕ). x == 47) e; block = ap (λ (x : ℕ). x == 42) e }
 
-pattern_no : (k : Kind) (c : ℕ) (u r v : List ℕ) → c ∷ v ≡ u ++ r → Rest (Pattern BodyStart) k u → NoComment c
+pattern_no : (k : Kind) (c : ℕ) (u r v : List ℕ) → c ∷ v ≡ u ++ r → PlaceResidual (Pattern BodyStart) k u → NoComment c
 pattern_no k c [] r v e h = absurd h.1
 pattern_no k c (d ∷ u) r v e h = let head : d ≡ c = cc in subst NoComment head (body_no d u h.1)
 
 slash_no : (g : Goal) (f : Bool) (c : ℕ) (h : Goal) (w : List Mark) (end : Goal) (tokens : List Cut) → TokenFrom (behind_slash g) (47 ∷ []) f (mark h c ∷ w) end tokens → NoComment c
-slash_no g f c h w end tokens t = by_goal (split (λ (x : Place). Rest x t.kind (chars t.before)) (is_div g) _ _ t.completes)
+slash_no g f c h w end tokens t = by_goal (split (λ (x : Place). PlaceResidual x t.kind (chars t.before)) (is_div g) _ _ t.completes)
   where
     spells : c ∷ chars w ≡ chars t.before ++ chars t.after
     spells = ap chars t.spells ∙ chars-append t.before t.after
 
-    by_goal : ((is_div g ≡ true) × Rest (AtMark TheSlash) t.kind (chars t.before)) ⊎ ((is_div g ≡ false) × Rest (Pattern BodyStart) t.kind (chars t.before)) → NoComment c
+    by_goal : ((is_div g ≡ true) × PlaceResidual (AtMark TheSlash) t.kind (chars t.before)) ⊎ ((is_div g ≡ false) × PlaceResidual (Pattern BodyStart) t.kind (chars t.before)) → NoComment c
     by_goal (inl (_, r)) = division_no t.kind c (chars t.before) (chars t.after) (chars w) spells r t.free
     by_goal (inr (_, r)) = pattern_no t.kind c (chars t.before) (chars t.after) (chars w) spells r
 
@@ -168,7 +168,7 @@ pub last_token : (s : Place) (read : List ℕ) (f : Bool) (g : Goal) (k : Kind) 
 last_token s read f g k e = record {
   goes = λ tokens h.
       let n = nothing h.before h.after h.spells in
-      let rest = subst (λ (v : List Mark). Rest s h.kind (chars v)) n.0 h.completes in
+      let rest = subst (λ (v : List Mark). PlaceResidual s h.kind (chars v)) n.0 h.completes in
       let ends = ends_here s h.kind rest in
       let same : h.kind ≡ k = cc in
       let none : h.others ≡ [] = no_tokens false g h.others (subst (λ (v : List Mark). CutsFrom false v g h.others) n.1 h.further) in (
@@ -201,7 +201,7 @@ no_last : (s : Place) (read : List ℕ) (f : Bool) (g : Goal) (given : Option Ki
 no_last s read f g given e = record {
   goes = λ tokens h.
       let n = nothing h.before h.after h.spells in
-      let rest = subst (λ (v : List Mark). Rest s h.kind (chars v)) n.0 h.completes in
+      let rest = subst (λ (v : List Mark). PlaceResidual s h.kind (chars v)) n.0 h.completes in
       let ends = ends_here s h.kind rest in
       absurd cc;
   comes = λ h. absurd cc;

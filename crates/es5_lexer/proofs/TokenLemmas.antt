@@ -12,7 +12,7 @@ use Rattle.es5_lexer.specs.Numbers.{is_nonzero}
 use Rattle.es5_lexer.specs.Patterns.{IsBody}
 use Rattle.es5_lexer.specs.Tokens.{IsToken, is_barred, may_precede, Stands}
 use Rattle.es5_lexer.specs.Places.{next}
-use Rattle.es5_lexer.specs.Rests.{IsKind, Rest}
+use Rattle.es5_lexer.specs.PlaceResiduals.{IsKind, PlaceResidual}
 use Rattle.es5_lexer.specs.Reading.{last, comment, leading_trivium, longest_token, token_of, standing, token_at_from, token_at}
 use Rattle.es5_lexer.specs.declared.tokens.Goal.{Goal}
 use Rattle.es5_lexer.specs.declared.tokens.Word.{Word}
@@ -108,7 +108,7 @@ kind_token g APattern u h = h
 
 -- a text is of one kind
 
-rest_kind : (s : Place) (u : List ℕ) (k l : Kind) → Rest s k u → Rest s l u → k ≡ l
+rest_kind : (s : Place) (u : List ℕ) (k l : Kind) → PlaceResidual s k u → PlaceResidual s l u → k ≡ l
 rest_kind s [] k l h i = let e = ends_here s k h in let f = ends_here s l i in cc
 rest_kind s (c ∷ u) k l h i = rest_kind (next s c) u k l (goes s k c u h) (goes s l c u i)
 

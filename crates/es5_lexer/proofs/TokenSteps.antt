@@ -15,7 +15,7 @@ use Rattle.es5_lexer.specs.Tokens.{is_barred, may_precede}
 use Rattle.es5_lexer.specs.Texts.{Mark, mark, chars, asked}
 use Rattle.es5_lexer.specs.Cuts.{Cut, cut, CutsFrom}
 use Rattle.es5_lexer.specs.Places.{is_dot, longer, first, next, next_by, next_in_exponent, ended, is_dead}
-use Rattle.es5_lexer.specs.Rests.{NumberRest, Rest}
+use Rattle.es5_lexer.specs.PlaceResiduals.{NumberResidual, PlaceResidual}
 use Rattle.es5_lexer.specs.Reading.{token_of}
 use Rattle.es5_lexer.specs.Residuals.{onto, TokenFrom, GoesOn, Steps}
 use Rattle.es5_lexer.specs.declared.tokens.Goal.{Goal}
@@ -60,8 +60,8 @@ prepend s read f g c w end tokens h = record {
 pub record Ended (s : Place) (read : List ℕ) (f : Bool) (w : List Mark) (end : Goal) (tokens : List Cut) : Type 0 where
   pub kind : Kind
   pub others : List Cut
-  pub completes : Rest s kind []
-  pub longest : (a b : List ℕ) (k : Kind) → chars w ≡ a ++ b → Rest s k a → a ≡ []
+  pub completes : PlaceResidual s kind []
+  pub longest : (a b : List ℕ) (k : Kind) → chars w ≡ a ++ b → PlaceResidual s k a → a ≡ []
   pub free : may_precede (token_of kind (onto read [])) (chars w) ≡ true
   pub further : CutsFrom false w end others
   pub gives : tokens ≡ cut (token_of kind (onto read [])) f w ∷ others
@@ -84,21 +84,21 @@ pub way : (s : Place) (read : List ℕ) (f : Bool) (g : Goal) (c : ℕ) (w : Lis
 way s read f g c w end tokens h =
     by_before h.kind h.before h.after h.others h.spells h.completes h.longest h.free h.further h.gives
   where
-    by_mark : (k : Kind) (m : Mark) (p r : List Mark) (others : List Cut) → m.character ≡ c → w ≡ p ++ r → Rest s k (m.character ∷ chars p) → ((a b : List ℕ) (l : Kind) → chars r ≡ a ++ b → Rest s l (m.character ∷ (chars p ++ a)) → a ≡ []) → may_precede (token_of k (onto read (m.character ∷ chars p))) (chars r) ≡ true → CutsFrom false r end others → tokens ≡ cut (token_of k (onto read (m.character ∷ chars p))) f r ∷ others → TokenFrom (next s c) (c ∷ read) f w end tokens
+    by_mark : (k : Kind) (m : Mark) (p r : List Mark) (others : List Cut) → m.character ≡ c → w ≡ p ++ r → PlaceResidual s k (m.character ∷ chars p) → ((a b : List ℕ) (l : Kind) → chars r ≡ a ++ b → PlaceResidual s l (m.character ∷ (chars p ++ a)) → a ≡ []) → may_precede (token_of k (onto read (m.character ∷ chars p))) (chars r) ≡ true → CutsFrom false r end others → tokens ≡ cut (token_of k (onto read (m.character ∷ chars p))) f r ∷ others → TokenFrom (next s c) (c ∷ read) f w end tokens
     by_mark k m p r others same tail rest longest free further gives = record {
       kind = k;
       before = p;
       after = r;
       others = others;
       spells = tail;
-      completes = goes s k c (chars p) (subst (λ (x : ℕ). Rest s k (x ∷ chars p)) same rest);
-      longest = λ a b l e i. longest a b l e (subst (λ (x : ℕ). Rest s l (x ∷ (chars p ++ a))) (sym same) (comes s l c (chars p ++ a) i));
+      completes = goes s k c (chars p) (subst (λ (x : ℕ). PlaceResidual s k (x ∷ chars p)) same rest);
+      longest = λ a b l e i. longest a b l e (subst (λ (x : ℕ). PlaceResidual s l (x ∷ (chars p ++ a))) (sym same) (comes s l c (chars p ++ a) i));
       free = subst (λ (x : ℕ). may_precede (token_of k (onto read (x ∷ chars p))) (chars r) ≡ true) same free;
       further = further;
       gives = subst (λ (x : ℕ). tokens ≡ cut (token_of k (onto read (x ∷ chars p))) f r ∷ others) same gives;
     }
 
-    by_before : (k : Kind) (p r : List Mark) (others : List Cut) → mark g c ∷ w ≡ p ++ r → Rest s k (chars p) → ((a b : List ℕ) (l : Kind) → chars r ≡ a ++ b → Rest s l (chars p ++ a) → a ≡ []) → may_precede (token_of k (onto read (chars p))) (chars r) ≡ true → CutsFrom false r end others → tokens ≡ cut (token_of k (onto read (chars p))) f r ∷ others → TokenFrom (next s c) (c ∷ read) f w end tokens ⊎ Ended s read f (mark g c ∷ w) end tokens
+    by_before : (k : Kind) (p r : List Mark) (others : List Cut) → mark g c ∷ w ≡ p ++ r → PlaceResidual s k (chars p) → ((a b : List ℕ) (l : Kind) → chars r ≡ a ++ b → PlaceResidual s l (chars p ++ a) → a ≡ []) → may_precede (token_of k (onto read (chars p))) (chars r) ≡ true → CutsFrom false r end others → tokens ≡ cut (token_of k (onto read (chars p))) f r ∷ others → TokenFrom (next s c) (c ∷ read) f w end tokens ⊎ Ended s read f (mark g c ∷ w) end tokens
     by_before k [] r others e rest longest free further gives = inr (record {
       kind = k;
       others = others;
@@ -116,8 +116,8 @@ way s read f g c w end tokens h =
 -- one, or it begins an escape
 abbrev pub Further : Place → ℕ → Kind → Type 0
 Further s c k =
-    ((l : Kind) × Rest s l (c ∷ []))
-    ⊎ (((u : List ℕ) → is_barred (token_of k u) c ≡ true) ⊎ ((c ≡ 92) × ((u : List ℕ) → AreEscaped is_part u → (l : Kind) × Rest s l (c ∷ u))))
+    ((l : Kind) × PlaceResidual s l (c ∷ []))
+    ⊎ (((u : List ℕ) → is_barred (token_of k u) c ≡ true) ⊎ ((c ≡ 92) × ((u : List ℕ) → AreEscaped is_part u → (l : Kind) × PlaceResidual s l (c ∷ u))))
 
 start_barred : (c : ℕ) → is_start c ≡ true → (is_digit c || (is_start c || (c == 92))) ≡ true
 start_barred c e = second (is_digit c) (is_start c) (c == 92) e
@@ -158,7 +158,7 @@ exponent_further place c h =
       | inr (_, z) ↦ absurd cc
     ]
 
-number_further : (place : NumberPlace) (c : ℕ) → NumberRest place [] → is_dead (next (Number place) c) ≡ false → Further (Number place) c ANumber
+number_further : (place : NumberPlace) (c : ℕ) → NumberResidual place [] → is_dead (next (Number place) c) ≡ false → Further (Number place) c ANumber
 number_further Zero c r h =
     elim (split (λ (x : Place). is_dead x ≡ false) (is_octal c) _ _ h) [
       | inl (t, _) ↦ inl (ANumber, (refl, inl (t, tt)))
@@ -201,7 +201,7 @@ mark_further p c None e h =
       | inr (_, k) ↦ absurd cc
     ]
 
-further : (s : Place) (c : ℕ) (k : Kind) → Rest s k [] → is_dead (next s c) ≡ false → Further s c k
+further : (s : Place) (c : ℕ) (k : Kind) → PlaceResidual s k [] → is_dead (next s c) ≡ false → Further s c k
 further Name c k r h =
     elim (split (λ (x : Place). is_dead x ≡ false) (is_part c) _ _ h) [
       | inl (t, _) ↦ inl (AName, (refl, inl (t, tt)))
@@ -284,12 +284,12 @@ no_cons c u e = absurd cc
 pub must_go : (s : Place) (read : List ℕ) (f : Bool) (g : Goal) (c : ℕ) (w : List Mark) (end : Goal) (tokens : List Cut) → is_dead (next s c) ≡ false → Ended s read f (mark g c ∷ w) end tokens → ⊥
 must_go s read f g c w end tokens live h = by_way (further s c h.kind h.completes live)
   where
-    by_escape : c ≡ 92 → ((u : List ℕ) → AreEscaped is_part u → (l : Kind) × Rest s l (c ∷ u)) → Opened false c w end h.others → ⊥
+    by_escape : c ≡ 92 → ((u : List ℕ) → AreEscaped is_part u → (l : Kind) × PlaceResidual s l (c ∷ u)) → Opened false c w end h.others → ⊥
     by_escape e goes_on (a_blank b _) = backslash_no_blank c e b
     by_escape e goes_on (a_line d v k _ _ _) = not_both c e k
     by_escape e goes_on (a_block d v k _ _ _) = not_both c e k
     by_escape e goes_on (a_token t) =
-        let known = subst (λ (x : Place). Rest x t.kind (chars t.before)) (first_backslash (asked w end) c e) t.completes in
+        let known = subst (λ (x : Place). PlaceResidual x t.kind (chars t.before)) (first_backslash (asked w end) c e) t.completes in
         let more = goes_on (chars t.before) (escape_part (chars t.before) known.1) in
         let spells : c ∷ chars w ≡ (c ∷ chars t.before) ++ chars t.after = ap (λ (u : List ℕ). c ∷ u) (ap chars t.spells ∙ chars-append t.before t.after) in
         no_cons c (chars t.before) (h.longest (c ∷ chars t.before) (chars t.after) more.0 spells more.1)
@@ -312,16 +312,16 @@ token_step s read f g c live =
     (λ w end tokens h. prepend s read f g c w end tokens h)
 
 -- the token of its place
-same_kind : (s : Place) (k l : Kind) → ended s ≡ Some k → Rest s l [] → l ≡ k
+same_kind : (s : Place) (k l : Kind) → ended s ≡ Some k → PlaceResidual s l [] → l ≡ k
 same_kind s k l e r = let f = ends_here s l r in cc
 
-pub none_longer : (s : Place) (c : ℕ) (u : List ℕ) → is_dead (next s c) ≡ true → (a b : List ℕ) (l : Kind) → c ∷ u ≡ a ++ b → Rest s l a → a ≡ []
+pub none_longer : (s : Place) (c : ℕ) (u : List ℕ) → is_dead (next s c) ≡ true → (a b : List ℕ) (l : Kind) → c ∷ u ≡ a ++ b → PlaceResidual s l a → a ≡ []
 none_longer s c u dead [] b l e r = refl
 none_longer s c u dead (d ∷ a) b l e r =
     let head : d ≡ c = cc in
-    absurd (no_rest (next s c) dead (goes s l c a (subst (λ (x : ℕ). Rest s l (x ∷ a)) head r)))
+    absurd (no_rest (next s c) dead (goes s l c a (subst (λ (x : ℕ). PlaceResidual s l (x ∷ a)) head r)))
   where
-    no_rest : (p : Place) → is_dead p ≡ true → Rest p l a → ⊥
+    no_rest : (p : Place) → is_dead p ≡ true → PlaceResidual p l a → ⊥
     no_rest Dead h x = x
     no_rest _ h x = absurd cc
 

@@ -3,7 +3,7 @@
 use Rattle.std.specs.Prelude.{◌≡◌, ℕ, Bool, true, false, ◌||◌, ◌==◌, nat_lt, if◌then◌else◌, Option, Some, None, List, [], ◌∷◌, ◌++◌, length, map, take}
 use Rattle.es5_lexer.specs.Characters.{escaped}
 use Rattle.es5_lexer.specs.Names.{spelled, spelled_escape, is_escaped, word_of, token_by}
-use Rattle.es5_lexer.specs.Rests.{with_seen, Rest}
+use Rattle.es5_lexer.specs.PlaceResiduals.{with_seen, PlaceResidual}
 use Rattle.es5_lexer.specs.Residuals.{onto}
 use Rattle.es5_lexer.specs.declared.tokens.Token.{Token as AToken}
 use Rattle.es5_lexer.specs.declared.tokens.Token.TheVariants.{Punct, Number, Text, Pattern}
@@ -62,7 +62,7 @@ pub record Spells (letters : List ℕ) (escapes : Bool) (place : Place) (read u 
 -- the letters of the name at hand, where the place is in a name
 abbrev pub Hears : List ℕ → Bool → Place → List ℕ → Type 0
 Hears letters escapes place read =
-    (u : List ℕ) → Rest place AName u → Spells letters escapes place read u
+    (u : List ℕ) → PlaceResidual place AName u → Spells letters escapes place read u
 
 -- the same where a lexer stands
 abbrev pub HeardAt : Letters → State → List ℕ → Type 0

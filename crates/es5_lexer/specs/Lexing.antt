@@ -4,7 +4,7 @@ use Rattle.es5_lexer.specs.Texts.{Mark, mark, chars}
 use Rattle.es5_lexer.specs.Cuts.{Cut, CutsFrom, lexemes_of}
 use Rattle.es5_lexer.specs.Begins.{IsFront, is_open_escape}
 use Rattle.es5_lexer.specs.Residuals.{GoesOn, own}
-use Rattle.es5_lexer.specs.Rests.{with_seen}
+use Rattle.es5_lexer.specs.PlaceResiduals.{with_seen}
 use Rattle.es5_lexer.specs.Letters.{HeardAt}
 use Rattle.es5_lexer.specs.declared.tokens.Goal.{Goal}
 use Rattle.es5_lexer.specs.declared.tokens.Lexeme.{Lexeme}

@@ -11,7 +11,7 @@ pub mod Suits
 pub mod Begins
 pub mod Cuts
 pub mod Places
-pub mod Rests
+pub mod PlaceResiduals
 pub mod Reading
 pub mod Residuals
 pub mod Letters

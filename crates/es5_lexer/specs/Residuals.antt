@@ -7,7 +7,7 @@ use Rattle.es5_lexer.specs.Tokens.{is_barred, may_precede}
 use Rattle.es5_lexer.specs.Texts.{Mark, mark, chars, ended_in}
 use Rattle.es5_lexer.specs.Cuts.{Cut, cut, CutsFrom, cuts_at}
 use Rattle.es5_lexer.specs.Places.{first, next, ended, is_dead, behind_slash}
-use Rattle.es5_lexer.specs.Rests.{Rest}
+use Rattle.es5_lexer.specs.PlaceResiduals.{PlaceResidual}
 use Rattle.es5_lexer.specs.Reading.{token_of}
 use Rattle.es5_lexer.specs.declared.tokens.Goal.{Goal}
 use Rattle.es5_lexer.specs.declared.tokens.Lexeme.{Lexeme}
@@ -29,8 +29,8 @@ pub record TokenFrom (place : Place) (read : List ℕ) (newline : Bool) (w : Lis
   pub after : List Mark
   pub others : List Cut
   pub spells : w ≡ before ++ after
-  pub completes : Rest place kind (chars before)
-  pub longest : (a b : List ℕ) (k : Kind) → chars after ≡ a ++ b → Rest place k (chars before ++ a) → a ≡ []
+  pub completes : PlaceResidual place kind (chars before)
+  pub longest : (a b : List ℕ) (k : Kind) → chars after ≡ a ++ b → PlaceResidual place k (chars before ++ a) → a ≡ []
   pub free : may_precede (token_of kind (onto read (chars before))) (chars after) ≡ true
   pub further : CutsFrom false after end others
   pub gives : tokens ≡ cut (token_of kind (onto read (chars before))) newline after ∷ others

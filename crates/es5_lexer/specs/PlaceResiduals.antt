@@ -1,4 +1,4 @@
--- What may still come at each place in a token of some kind.
+-- The residual of each place in a token: what may still come there, of a token of some kind.
 use Rattle.std.specs.Prelude.{◌≡◌, ℕ, true, false, Some, List, [], ◌∷◌, ◌⊎◌}
 use Rattle.es5_lexer.specs.Characters.{is_digit}
 use Rattle.es5_lexer.specs.Suits.{is_div}
@@ -52,26 +52,26 @@ with_seen (TwoDigits a b) u = 117 ∷ a ∷ b ∷ u
 with_seen (ThreeDigits a b c) u = 117 ∷ a ∷ b ∷ c ∷ u
 
 -- in an escape: its rest, and then name parts
-abbrev pub EscapeRest : Host → Seen → List ℕ → Type 0
-EscapeRest host seen u = AreEscaped (set_of host) (with_seen seen u)
+abbrev pub EscapeResidual : Host → Seen → List ℕ → Type 0
+EscapeResidual host seen u = AreEscaped (set_of host) (with_seen seen u)
 
 -- behind a whole punctuator: the rest of a longer one, or of a number that begins with a point
-abbrev pub MarkRest : Punct → Kind → List ℕ → Type 0
-MarkRest p k [] = k ≡ APunct p
-MarkRest p k (c ∷ u) =
-    ((q : Punct) × (longer p c ≡ Some q) × MarkRest q k u)
+abbrev pub MarkResidual : Punct → Kind → List ℕ → Type 0
+MarkResidual p k [] = k ≡ APunct p
+MarkResidual p k (c ∷ u) =
+    ((q : Punct) × (longer p c ≡ Some q) × MarkResidual q k u)
     ⊎ ((p ≡ Dot) × (is_digit c ≡ true) × (k ≡ ANumber) × IsBehindPoint u)
 
-abbrev pub NumberRest : NumberPlace → List ℕ → Type 0
-NumberRest Zero u = IsBehindZero u
-NumberRest Digit u = IsBehindDigit u
-NumberRest Point u = IsBehindPoint u
-NumberRest Exponent u = IsSignedInteger u
-NumberRest Sign u = AreSomeDigits u
-NumberRest ExponentDigit u = AreDigits u
-NumberRest HexMark u = AreSomeHexDigits u
-NumberRest HexDigit u = AreHexDigits u
-NumberRest OctalDigit u = AreOctalDigits u
+abbrev pub NumberResidual : NumberPlace → List ℕ → Type 0
+NumberResidual Zero u = IsBehindZero u
+NumberResidual Digit u = IsBehindDigit u
+NumberResidual Point u = IsBehindPoint u
+NumberResidual Exponent u = IsSignedInteger u
+NumberResidual Sign u = AreSomeDigits u
+NumberResidual ExponentDigit u = AreDigits u
+NumberResidual HexMark u = AreSomeHexDigits u
+NumberResidual HexDigit u = AreHexDigits u
+NumberResidual OctalDigit u = AreOctalDigits u
 
 -- how many digits are missing behind the next one
 abbrev pub further : Left → ℕ
@@ -80,27 +80,27 @@ further Two = 1
 further Three = 2
 further Four = 3
 
-abbrev pub TextRest : Quote → TextPlace → List ℕ → Type 0
-TextRest q Chars u = IsStringRest q u
-TextRest q TextEscape u = IsBehindEscape q u
-TextRest q Cr u = IsStringRest q u ⊎ IsLfThen q u
-TextRest q (Hex left) u = AreHexThen (further left) q u
-TextRest q End u = u ≡ []
+abbrev pub TextResidual : Quote → TextPlace → List ℕ → Type 0
+TextResidual q Chars u = IsStringRest q u
+TextResidual q TextEscape u = IsBehindEscape q u
+TextResidual q Cr u = IsStringRest q u ⊎ IsLfThen q u
+TextResidual q (Hex left) u = AreHexThen (further left) q u
+TextResidual q End u = u ≡ []
 
-abbrev pub PatternRest : PatternPlace → List ℕ → Type 0
-PatternRest BodyStart u = IsBody u
-PatternRest Body u = IsBodyRest u
-PatternRest BodyEscape u = IsBehindBackslash u
-PatternRest Class u = IsClassRest u
-PatternRest ClassEscape u = IsBehindClassBackslash u
-PatternRest Flags u = AreParts u
+abbrev pub PatternResidual : PatternPlace → List ℕ → Type 0
+PatternResidual BodyStart u = IsBody u
+PatternResidual Body u = IsBodyRest u
+PatternResidual BodyEscape u = IsBehindBackslash u
+PatternResidual Class u = IsClassRest u
+PatternResidual ClassEscape u = IsBehindClassBackslash u
+PatternResidual Flags u = AreParts u
 
--- what completes a token of the kind at the place
-abbrev pub Rest : Place → Kind → List ℕ → Type 0
-Rest Name k u = (k ≡ AName) × AreParts u
-Rest (Escape host seen) k u = (k ≡ kind_in host) × EscapeRest host seen u
-Rest (Mark p) k u = MarkRest p k u
-Rest (Number place) k u = (k ≡ ANumber) × NumberRest place u
-Rest (Text q place) k u = (k ≡ AText) × TextRest q place u
-Rest (Pattern place) k u = (k ≡ APattern) × PatternRest place u
-Rest Dead k u = ⊥
+-- the residual of a place: what completes a token of the kind there
+abbrev pub PlaceResidual : Place → Kind → List ℕ → Type 0
+PlaceResidual Name k u = (k ≡ AName) × AreParts u
+PlaceResidual (Escape host seen) k u = (k ≡ kind_in host) × EscapeResidual host seen u
+PlaceResidual (Mark p) k u = MarkResidual p k u
+PlaceResidual (Number place) k u = (k ≡ ANumber) × NumberResidual place u
+PlaceResidual (Text q place) k u = (k ≡ AText) × TextResidual q place u
+PlaceResidual (Pattern place) k u = (k ≡ APattern) × PatternResidual place u
+PlaceResidual Dead k u = ⊥
