@@ -1,5 +1,5 @@
 -- What works on one response, and what it puts, by either job.
-use Rattle.std.specs.Prelude.{◌≡◌, ℕ, List, [], Option, Some, None}
+use Rattle.std.specs.Prelude.{◌≡◌, ℕ, List, []}
 use Rattle.response_rules.specs.declared.deciding.Decider.{Decider}
 use Rattle.response_rules.specs.Heads.{Head}
 use Rattle.response_rules.specs.Reads.{HasRead as DeciderHasRead}
@@ -13,16 +13,14 @@ use Rattle.orb_engine.specs.declared.worker.Worker.TheVariants as worker
 -- the worker does the job of these settings
 abbrev pub IsWorkerFor : Worker → Settings → Type 0
 IsWorkerFor (worker.Filters f) s = (s.job ≡ job.Filter) × (limit_of f ≡ s.limit)
-IsWorkerFor (worker.Explains d) s = s.job ≡ job.Explain
-
-abbrev pub ExplainerReads : Option Decider → Head → List ℕ → Type 0
-ExplainerReads None h m = ⊥
-ExplainerReads (Some d) h m = DeciderHasRead d h m
+IsWorkerFor worker.Explains s = s.job ≡ job.Explain
+IsWorkerFor (worker.Explaining d) s = s.job ≡ job.Explain
 
 -- it has read this prefix of the body of the response
 abbrev pub WorkerReads : Worker → Response → List ℕ → Type 0
 WorkerReads (worker.Filters f) x m = FilterHasRead f x m
-WorkerReads (worker.Explains d) x m = ExplainerReads d x.head m
+WorkerReads worker.Explains x m = ⊥
+WorkerReads (worker.Explaining d) x m = DeciderHasRead d x.head m
 
 -- the worker of these settings has read it
 pub record Works (w : Worker) (s : Settings) (x : Response) (m : List ℕ) : Type 0 where

@@ -19,8 +19,10 @@ use std::alloc::Global;
 pub(crate) enum Worker {
     /// Passes on what is allowed.
     Filters(Filter),
-    /// Writes a line for each response.
-    Explains(Option<Decider>),
+    /// Writes a line for each response, and is in none.
+    Explains,
+    /// Writes a line for the response that it decides.
+    Explaining(Decider),
 }
 
 impl Worker {
@@ -40,7 +42,7 @@ impl Worker {
                 Ok(filter) => Ok(Worker::Filters(filter)),
                 Err(_) => Err(NoMemory),
             },
-            Job::Explain => Ok(Worker::Explains(None)),
+            Job::Explain => Ok(Worker::Explains),
         }
     }
 
@@ -63,8 +65,12 @@ impl Worker {
     {
         match self {
             Worker::Filters(filter) => filter.begin(decider, head, chunked, sink),
-            Worker::Explains(current) => {
-                *current = Some(decider);
+            Worker::Explains => {
+                *self = Worker::Explaining(decider);
+                Ok(())
+            }
+            Worker::Explaining(last) => {
+                *last = decider;
                 Ok(())
             }
         }
@@ -82,11 +88,11 @@ impl Worker {
     {
         match self {
             Worker::Filters(filter) => filter.feed(body, sink),
-            Worker::Explains(Some(decider)) => {
+            Worker::Explaining(decider) => {
                 let _progress = decider.feed(body);
                 Ok(())
             }
-            Worker::Explains(None) => unreachable!(),
+            Worker::Explains => unreachable!(),
         }
     }
 
@@ -107,14 +113,14 @@ impl Worker {
     {
         match self {
             Worker::Filters(filter) => filter.end(sink),
-            Worker::Explains(Some(decider)) => {
+            Worker::Explaining(decider) => {
                 let verdict = decider.finish();
                 match sink.push(line(number, verdict.rule, verdict.state, size).as_slice()) {
                     Ok(()) => Ok(verdict),
                     Err(_) => Err(WriteFault),
                 }
             }
-            Worker::Explains(None) => unreachable!(),
+            Worker::Explains => unreachable!(),
         }
     }
 
@@ -126,8 +132,8 @@ impl Worker {
     {
         match self {
             Worker::Filters(filter) => filter.window_rule(),
-            Worker::Explains(Some(decider)) => decider.window_rule(),
-            Worker::Explains(None) => None,
+            Worker::Explaining(decider) => decider.window_rule(),
+            Worker::Explains => None,
         }
     }
 }

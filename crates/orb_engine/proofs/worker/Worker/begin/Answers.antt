@@ -2,7 +2,7 @@ use Rattle.std.proofs.Common.{[], refl, sym, ◌∙◌}
 use Rattle.orb_io.proofs.GivesLemmas.{Gives-none, Delivers-as}
 use Rattle.body_filter.specs.Responses.{response_of, output_so_far}
 use Rattle.orb_engine.specs.Outputs.{written_so_far}
-use Rattle.orb_engine.proofs.WorkLemmas.{for-filter, for-explain, so_far-filter, so_far-explain}
+use Rattle.orb_engine.proofs.WorkLemmas.{for-filter, for-explain, for-explaining, so_far-filter, so_far-explain}
 use Rattle.orb_engine.proofs.worker.Worker.begin.Goals as goal
 
 pub returns-in-Filters-clause-delivers : goal.returns-in-Filters-clause-delivers
@@ -15,6 +15,12 @@ returns-in-Filters-clause-delivers g c = λ s h is_for new.
 
 pub returns-in-Explains-clause-delivers : goal.returns-in-Explains-clause-delivers
 returns-in-Explains-clause-delivers g c = λ s h is_for new.
-    let it = for-explain c.args.self.now _ s c.in-Explains.is is_for in
+    let it = for-explain c.args.self.now s c.in-Explains.is is_for in
+    Gives-none _ [] _ (g.met.O.Sink.told_agrees c.args.sink.now)
+    (sym (so_far-explain s.job _ [] it), record { is_for = it; reads = new.reads })
+
+pub returns-in-Explaining-clause-delivers : goal.returns-in-Explaining-clause-delivers
+returns-in-Explaining-clause-delivers g c = λ s h is_for new.
+    let it = for-explaining c.args.self.now _ s c.in-Explaining.is is_for in
     Gives-none _ [] _ (g.met.O.Sink.told_agrees c.args.sink.now)
     (sym (so_far-explain s.job _ [] it), record { is_for = it; reads = new.reads })
