@@ -1,18 +1,17 @@
 -- What goes out of a longer body, and how much.
-use Rattle.std.proofs.Common.{◌≡◌, ℕ, zero, suc, ◌+◌, ◌*◌, ◌<◌, ◌≤◌, Bool, true, false, List, [], ◌∷◌, ◌++◌, length, take, drop, Option, Some, None, is_some, refl, ap, ◌∙◌, arith, length-append, length-drop}
+use Rattle.std.proofs.Common.{◌≡◌, ℕ, zero, suc, ◌+◌, ◌*◌, ◌<◌, ◌≤◌, Bool, true, false, List, [], ◌∷◌, ◌++◌, length, take, drop, refl, arith, length-append, length-drop}
 use Rattle.std.proofs.lemmas.List.{length-take-le}
 use Rattle.std.specs.Fmt.{digits}
 use Rattle.orb_io.specs.Told.{IsPrefix}
 use Rattle.orb_io.proofs.ToldLemmas.{IsPrefix-none, IsPrefix-append, IsPrefix-after}
-use Rattle.response_rules.specs.declared.rules.Rule.{Rule}
 use Rattle.response_rules.specs.Rules.{is_allowing}
-use Rattle.response_rules.specs.Tables.{window_rule_of}
+use Rattle.response_rules.specs.Tables.{rule_of}
 use Rattle.response_rules.specs.Settled.{is_sent}
 use Rattle.response_rules.proofs.SettledLemmas.{sent-longer, sent-allows}
 use Rattle.http_exchange.specs.Chunks.{chunk_size, crlf, chunk, full_chunks, count_full, rest_of, rest_chunk, last_chunk, body_so_far, whole_body, kept_of}
 use Rattle.http_exchange.specs.Framing.{put_of, end_of}
 use Rattle.body_filter.specs.Reply.{reply_of}
-use Rattle.body_filter.specs.Responses.{Response, output_so_far, whole_output, decided, decided_by}
+use Rattle.body_filter.specs.Responses.{Response, output_so_far, whole_output}
 use Rattle.orb_bytes.proofs.HexadecimalLemmas.{three_at_most}
 use Rattle.body_filter.proofs.ReplyLemmas.{reply-short}
 use Rattle.http_exchange.proofs.ChunkLemmas.{full_fits, rest-length, rest-short}
@@ -32,33 +31,24 @@ front-grows x m more = by (is_sent x.head m) refl
         rw (so_far-sent x m sent, so_far-sent x (m ++ more) (sent-longer x.head m more sent))
         (IsPrefix-after x.bytes (body_so_far x.chunked m) (body_so_far x.chunked (m ++ more)) (body-grows x.chunked m more))
 
--- a whole exchange that a rule decides
-pub whole-decided : (x : Response) (m : List ℕ) (r : Rule) → window_rule_of x.head m ≡ Some r → whole_output x m ≡ decided_by x m r
+-- a whole exchange, by whether its rule allows
+pub whole-allowed : (x : Response) (m : List ℕ) → is_allowing (rule_of x.head m) ≡ true → whole_output x m ≡ x.bytes ++ whole_body x.chunked m
 unfolding whole_output
-whole-decided x m r rule = ap (decided x m) rule
+whole-allowed x m allows = rw allows refl
 
-pub whole-allowed : (x : Response) (m : List ℕ) (r : Rule) → window_rule_of x.head m ≡ Some r → is_allowing r ≡ true
-    → whole_output x m ≡ x.bytes ++ whole_body x.chunked m
-whole-allowed x m r rule allows = whole-decided x m r rule ∙ rw allows refl
+pub whole-blocked : (x : Response) (m : List ℕ) → is_allowing (rule_of x.head m) ≡ false → whole_output x m ≡ reply_of (rule_of x.head m)
+unfolding whole_output
+whole-blocked x m blocks = rw blocks refl
 
-pub whole-blocked : (x : Response) (m : List ℕ) (r : Rule) → window_rule_of x.head m ≡ Some r → is_allowing r ≡ false
-    → whole_output x m ≡ reply_of r
-whole-blocked x m r rule blocks = whole-decided x m r rule ∙ rw blocks refl
-
-pub front-whole_now : (x : Response) (m : List ℕ) → is_some (window_rule_of x.head m) ≡ true → IsPrefix (output_so_far x m) (whole_output x m)
-front-whole_now x m decided = by (is_sent x.head m) refl
+pub front-whole_now : (x : Response) (m : List ℕ) → IsPrefix (output_so_far x m) (whole_output x m)
+front-whole_now x m = by (is_sent x.head m) refl
   where
-    whole : (o : Option Rule) → window_rule_of x.head m ≡ o → is_some o ≡ true → is_sent x.head m ≡ true
-        → IsPrefix (output_so_far x m) (whole_output x m)
-    whole None rule some sent = absurd (grind (arith, some))
-    whole (Some r) rule some sent =
-        rw (so_far-sent x m sent, whole-allowed x m r rule (sent-allows x.head m r sent rule), whole-is x.chunked m)
-        (IsPrefix-after x.bytes (body_so_far x.chunked m) (body_so_far x.chunked m ++ end_of x.chunked (kept_of x.chunked m))
-        (IsPrefix-append (body_so_far x.chunked m) (end_of x.chunked (kept_of x.chunked m))))
-
     by : (b : Bool) → is_sent x.head m ≡ b → IsPrefix (output_so_far x m) (whole_output x m)
     by false unsent = rw (so_far-unsent x m unsent) (IsPrefix-none (whole_output x m))
-    by true sent = whole (window_rule_of x.head m) refl decided sent
+    by true sent =
+        rw (so_far-sent x m sent, whole-allowed x m (sent-allows x.head m sent), whole-is x.chunked m)
+        (IsPrefix-after x.bytes (body_so_far x.chunked m) (body_so_far x.chunked m ++ end_of x.chunked (kept_of x.chunked m))
+        (IsPrefix-append (body_so_far x.chunked m) (end_of x.chunked (kept_of x.chunked m))))
 
 -- how much goes out
 chunk-length : (b : List ℕ) → length b < 4096 → length (chunk b) ≤ length b + 7
@@ -111,16 +101,9 @@ so_far-length x m = by (is_sent x.head m) refl
         rw (so_far-sent x m sent) (omega (arith, length-append x.bytes (body_so_far x.chunked m), body-length x.chunked m))
 
 pub output-length : (x : Response) (m : List ℕ) → length (whole_output x m) ≤ length x.bytes + 2 * length m + 128
-output-length x m = by (window_rule_of x.head m) refl
+output-length x m = by (is_allowing (rule_of x.head m)) refl
   where
-    decided-length : (r : Rule) (b : Bool) → is_allowing r ≡ b → length (decided_by x m r) ≤ length x.bytes + 2 * length m + 128
-    decided-length r true allows =
-        rw allows (omega (arith, length-append x.bytes (whole_body x.chunked m), whole-length x.chunked m))
-    decided-length r false blocks = rw blocks (omega (arith, reply-short r))
-
-    none-length : (o : Option Rule) → o ≡ None → length (decided x m o) ≤ length x.bytes + 2 * length m + 128
-    none-length o none = rw none (omega arith)
-
-    by : (o : Option Rule) → window_rule_of x.head m ≡ o → length (whole_output x m) ≤ length x.bytes + 2 * length m + 128
-    by None rule = unfold whole_output in none-length (window_rule_of x.head m) rule
-    by (Some r) rule = rw (whole-decided x m r rule) (decided-length r (is_allowing r) refl)
+    by : (b : Bool) → is_allowing (rule_of x.head m) ≡ b → length (whole_output x m) ≤ length x.bytes + 2 * length m + 128
+    by true allows =
+        rw (whole-allowed x m allows) (omega (arith, length-append x.bytes (whole_body x.chunked m), whole-length x.chunked m))
+    by false blocks = rw (whole-blocked x m blocks) (omega (arith, reply-short (rule_of x.head m)))

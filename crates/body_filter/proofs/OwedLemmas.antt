@@ -5,7 +5,9 @@ use Rattle.response_rules.specs.declared.verdicts.Verdict.{Verdict}
 use Rattle.response_rules.specs.Rules.{is_allowing}
 use Rattle.response_rules.specs.Settled.{is_sent}
 use Rattle.response_rules.specs.Reads.{IsVerdict}
+use Rattle.response_rules.specs.Tables.{rule_of}
 use Rattle.response_rules.proofs.SettledLemmas.{sent-allows}
+use Rattle.response_rules.proofs.HopelessLemmas.{hopeless-unsent}
 use Rattle.body_filter.specs.declared.filtering.Filter.{Filter}
 use Rattle.body_filter.specs.declared.phases.Phase.{Phase}
 use Rattle.body_filter.specs.declared.phases.Phase.TheVariants as phase
@@ -14,9 +16,10 @@ use Rattle.http_exchange.specs.Framing.{put_of, kept_after, end_of}
 use Rattle.http_exchange.specs.Framers.{is_chunked_by, kept_by}
 use Rattle.body_filter.specs.Reply.{reply_of}
 use Rattle.body_filter.specs.Responses.{Response, output_so_far, whole_output}
+use Rattle.body_filter.specs.Judged.{Decides, dead_by}
 use Rattle.body_filter.specs.Reads.{Stands, ended_by}
 use Rattle.http_exchange.proofs.FramingLaws.{front-on, kept-on, front-none, released, released-kept, held-whole, whole-is}
-use Rattle.body_filter.proofs.FilterLemmas.{so_far-unsent, so_far-sent, given_up-unsent, given_up-blocks}
+use Rattle.body_filter.proofs.FilterLemmas.{so_far-unsent, so_far-sent, dropped-blocks}
 use Rattle.body_filter.proofs.LawLemmas.{whole-allowed, whole-blocked}
 
 -- at the head
@@ -59,36 +62,37 @@ ends_sent x m v chunked rest is kept sent verdict =
     rw (is, kept, so_far-sent x m sent)
     (append_assoc x.bytes (body_so_far x.chunked m) (end_of x.chunked (kept_of x.chunked m))
     ∙ (ap (λ t. x.bytes ++ t) (sym (whole-is x.chunked m))
-    ∙ sym (whole-allowed x m v.rule verdict.rule (sent-allows x.head m v.rule sent verdict.rule))))
+    ∙ sym (whole-allowed x m (sent-allows x.head m sent))))
 
 -- of one that was held to its end
 ends_held : (x : Response) (m : List ℕ) (v : Verdict) (chunked : Bool) (rest head held : List ℕ)
     → chunked ≡ x.chunked → rest ≡ [] → head ≡ x.bytes → held ≡ m → IsVerdict x.head m v
     → (if v.allow then head ++ (put_of chunked rest held ++ end_of chunked (kept_after chunked rest held)) else reply_of v.rule)
     ≡ whole_output x m
-ends_held x m v chunked rest head held is none same all verdict = by v.allow (sym verdict.allow)
+ends_held x m v chunked rest head held is none same all verdict =
+    by v.allow (sym (ap is_allowing verdict.rule) ∙ sym verdict.allow)
   where
-    by : (b : Bool) → is_allowing v.rule ≡ b
+    by : (b : Bool) → is_allowing (rule_of x.head m) ≡ b
         → (if b then head ++ (put_of chunked rest held ++ end_of chunked (kept_after chunked rest held)) else reply_of v.rule)
         ≡ whole_output x m
     by true allows =
         rw (is, none, same, all)
-        (ap (λ t. x.bytes ++ t) (held-whole x.chunked m) ∙ sym (whole-allowed x m v.rule verdict.rule allows))
-    by false blocks = sym (whole-blocked x m v.rule verdict.rule blocks)
+        (ap (λ t. x.bytes ++ t) (held-whole x.chunked m) ∙ sym (whole-allowed x m allows))
+    by false blocks = ap reply_of verdict.rule ∙ sym (whole-blocked x m blocks)
 
-pub ended-is : (p : Phase) (f g : Filter) (x : Response) (m : List ℕ) (v : Verdict) → Stands p f x m
+pub ended-is : (p : Phase) (f g : Filter) (x : Response) (m : List ℕ) (v : Verdict) → Stands p f x m → Decides f.decider x.head m
     → IsVerdict x.head m v → g.framer ≡ f.framer → g.head ≡ f.head → g.held ≡ f.held
     → output_so_far x m ++ ended_by p g v ≡ whole_output x m
-ended-is phase.Idle f g x m v stands verdict framer head held = absurd stands
-ended-is phase.Holding f g x m v stands verdict framer head held =
+ended-is phase.Idle f g x m v stands decides verdict framer head held = absurd stands
+ended-is phase.Holding f g x m v stands decides verdict framer head held =
     rw (so_far-unsent x m stands.unsent)
     (ends_held x m v (is_chunked_by g.framer) (kept_by g.framer) g.head.items g.held.items
     (ap is_chunked_by framer ∙ stands.chunked) (ap kept_by framer ∙ stands.rest)
     (ap (λ t. t.items) head ∙ stands.head) (ap (λ t. t.items) held ∙ stands.held) verdict)
-ended-is phase.Passing f g x m v stands verdict framer head held =
+ended-is phase.Passing f g x m v stands decides verdict framer head held =
     ends_sent x m v (is_chunked_by g.framer) (kept_by g.framer)
     (ap is_chunked_by framer ∙ stands.chunked) (ap kept_by framer ∙ stands.rest)
     stands.sent verdict
-ended-is phase.Dropping f g x m v stands verdict framer head held =
-    rw (so_far-unsent x m (given_up-unsent x.head m stands.over))
-    (sym (whole-blocked x m v.rule verdict.rule (given_up-blocks x.head m v.rule stands.over verdict.rule)))
+ended-is phase.Dropping f g x m v stands decides verdict framer head held =
+    rw (so_far-unsent x m (hopeless-unsent x.head m (dead_by f.decider) stands.over))
+    (ap reply_of verdict.rule ∙ sym (whole-blocked x m (dropped-blocks f.decider x.head m decides stands.over)))

@@ -1,15 +1,13 @@
 -- What a filter has read, phase by phase, and how far a response is judged.
-use Rattle.std.proofs.Common.{◌≡◌, ℕ, Bool, true, false, ◌||◌, ◌&&◌, nat_lt, List, [], Result, Ok, Err, OnOk, refl, sym, subst, arith}
-use Rattle.std.proofs.lemmas.Bool.Decides.{nat_tests}
+use Rattle.std.proofs.Common.{◌≡◌, ℕ, Bool, true, false, List, [], Result, Ok, Err, OnOk, refl, sym, subst, arith}
 use Rattle.response_rules.specs.declared.deciding.Decider.{Decider}
 use Rattle.response_rules.specs.Heads.{Head}
-use Rattle.response_rules.specs.Settled.{is_hopeless, is_in_text}
 use Rattle.response_rules.specs.Reads.{HasRead as DeciderHasRead}
 use Rattle.body_filter.specs.declared.filtering.Filter.{Filter}
 use Rattle.body_filter.specs.declared.judging.Judgement.TheVariants as judgement
 use Rattle.body_filter.specs.declared.phases.Phase.{Phase}
 use Rattle.body_filter.specs.declared.phases.Phase.TheVariants as phase
-use Rattle.body_filter.specs.Responses.{Response, is_given_up}
+use Rattle.body_filter.specs.Responses.{Response}
 use Rattle.body_filter.specs.Judged.{Decides, judged}
 use Rattle.body_filter.specs.Reads.{HasRead, IsSpent, IsMadeFor, Holds, PassesOn, Drops, Stands, limit_of}
 
@@ -31,7 +29,7 @@ reads-passing f x m limit decides is stands = record {
 }
 
 pub reads-dropping : (f : Filter) (x : Response) (m : List ℕ) → x.head.limit ≡ limit_of f → Decides f.decider x.head m
-    → f.phase ≡ phase.Dropping → Drops x m → HasRead f x m
+    → f.phase ≡ phase.Dropping → Drops f x m → HasRead f x m
 reads-dropping f x m limit decides is stands = record {
   limit = limit;
   decides = decides;
@@ -44,7 +42,7 @@ holds-of f x m is r = let P : Phase → Type 0 = λ p. Stands p f x m in subst P
 pub passes-of : (f : Filter) (x : Response) (m : List ℕ) → f.phase ≡ phase.Passing → HasRead f x m → PassesOn f x m
 passes-of f x m is r = let P : Phase → Type 0 = λ p. Stands p f x m in subst P is r.stands
 
-pub drops-of : (f : Filter) (x : Response) (m : List ℕ) → f.phase ≡ phase.Dropping → HasRead f x m → Drops x m
+pub drops-of : (f : Filter) (x : Response) (m : List ℕ) → f.phase ≡ phase.Dropping → HasRead f x m → Drops f x m
 drops-of f x m is r = let P : Phase → Type 0 = λ p. Stands p f x m in subst P is r.stands
 
 pub idle-spent : (f : Filter) → f.phase ≡ phase.Idle → IsSpent f
@@ -52,7 +50,7 @@ idle-spent f is = λ x m r. let P : Phase → Type 0 = λ p. Stands p f x m in s
 
 -- the limit that a decider was made with
 pub made-limit : (d : Decider) (most : ℕ) (h : Head) → IsMadeFor d most → DeciderHasRead d h [] → h.limit ≡ most
-made-limit d most h made r = omega (arith, r.left, made.reads.left, made.limit)
+made-limit d most h made r = omega (arith, r.counted.left, made.reads.counted.left, made.limit)
 
 -- the judgement
 pub judged-allowed : (sent hopeless : Bool) → judgement.Allowed ≡ judged sent hopeless → sent ≡ true
@@ -69,18 +67,6 @@ pub judged-open : (sent hopeless : Bool) → judgement.Open ≡ judged sent hope
 judged-open true hopeless is = absurd (cc)
 judged-open false true is = absurd (cc)
 judged-open false false is = (refl, refl)
-
-first_by : (hopeless text long : Bool) → long ≡ false → (hopeless || (text && long)) ≡ hopeless
-first_by true text long short = refl
-first_by false true long short = short
-first_by false false long short = refl
-
-none_long : (limit : ℕ) → nat_lt limit 0 ≡ false
-none_long limit = grind (arith, nat_tests)
-
-pub given_up-first : (h : Head) → is_given_up h [] ≡ is_hopeless h []
-unfolding is_given_up
-given_up-first h = first_by (is_hopeless h []) (is_in_text h []) (nat_lt h.limit 0) (none_long h.limit)
 
 -- a fact that holds whatever a call answers
 pub on_ok : {T E P : Type 0} (r : Result T E) → P → OnOk r P

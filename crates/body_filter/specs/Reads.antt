@@ -1,20 +1,19 @@
 -- What a filter has read of a response, and what its calls do then.
-use Rattle.std.specs.Prelude.{◌≡◌, ℕ, true, false, List, [], ◌++◌, length, Option, is_some, if◌then◌else◌}
+use Rattle.std.specs.Prelude.{◌≡◌, ℕ, Bool, true, false, List, [], ◌++◌, length, if◌then◌else◌}
 use Rattle.response_rules.specs.declared.deciding.Decider.{Decider}
 use Rattle.response_rules.specs.declared.verdicts.Verdict.{Verdict}
 use Rattle.response_rules.specs.Heads.{Head}
-use Rattle.response_rules.specs.Tables.{window_rule_of}
-use Rattle.response_rules.specs.Settled.{is_sent}
+use Rattle.response_rules.specs.Settled.{is_sent, is_hopeless}
 use Rattle.response_rules.specs.Reads.{HasRead as DeciderHasRead}
 use Rattle.body_filter.specs.declared.filtering.Filter.{Filter}
 use Rattle.body_filter.specs.declared.phases.Phase.{Phase}
 use Rattle.body_filter.specs.declared.phases.Phase.TheVariants as phase
 use Rattle.http_exchange.specs.Chunks.{kept_of}
-use Rattle.body_filter.specs.Responses.{Response, is_given_up}
+use Rattle.body_filter.specs.Responses.{Response}
 use Rattle.http_exchange.specs.Framers.{is_chunked_by, kept_by}
 use Rattle.body_filter.specs.Reply.{reply_of}
 use Rattle.http_exchange.specs.Framing.{put_of, kept_after, end_of}
-use Rattle.body_filter.specs.Judged.{Decides}
+use Rattle.body_filter.specs.Judged.{Decides, dead_by}
 
 -- how many bytes of a body it holds back at most
 abbrev pub limit_of : Filter → ℕ
@@ -30,10 +29,14 @@ held_by phase.Dropping f = 0
 unfoldable pub held_in : Filter → ℕ
 held_in f = held_by f.phase f
 
+-- the script test that reads its body is dead
+abbrev pub is_script_dead : Filter → Bool
+is_script_dead f = dead_by f.decider
+
 -- nothing has gone out, and the body is kept
 pub record Holds (f : Filter) (x : Response) (m : List ℕ) : Type 0 where
   pub unsent : is_sent x.head m ≡ false
-  pub hopeful : is_given_up x.head m ≡ false
+  pub hopeful : is_hopeless x.head m (dead_by f.decider) ≡ false
   pub head : f.head.items ≡ x.bytes
   pub held : f.held.items ≡ m
   pub chunked : is_chunked_by f.framer ≡ x.chunked
@@ -45,16 +48,16 @@ pub record PassesOn (f : Filter) (x : Response) (m : List ℕ) : Type 0 where
   pub chunked : is_chunked_by f.framer ≡ x.chunked
   pub rest : kept_by f.framer ≡ kept_of x.chunked m
 
--- no byte of it will
-pub record Drops (x : Response) (m : List ℕ) : Type 0 where
-  pub over : is_given_up x.head m ≡ true
+-- no byte of it will, and none is kept
+pub record Drops (f : Filter) (x : Response) (m : List ℕ) : Type 0 where
+  pub over : is_hopeless x.head m (dead_by f.decider) ≡ true
 
 -- what its fields are in each phase
 abbrev pub Stands : Phase → Filter → Response → List ℕ → Type 0
 Stands phase.Idle f x m = ⊥
 Stands phase.Holding f x m = Holds f x m
 Stands phase.Passing f x m = PassesOn f x m
-Stands phase.Dropping f x m = Drops x m
+Stands phase.Dropping f x m = Drops f x m
 
 -- it has read this prefix of the body of that response, and put what goes out of the response then
 pub record HasRead (f : Filter) (x : Response) (m : List ℕ) : Type 0 where
@@ -67,13 +70,6 @@ pub record CanFeed (f : Filter) : Type 0 where
   pub x : Response
   pub m : List ℕ
   pub reads : HasRead f x m
-
--- it reads one that a rule of the head or the window decides, if its body ends here
-pub record CanEnd (f : Filter) : Type 0 where
-  pub x : Response
-  pub m : List ℕ
-  pub reads : HasRead f x m
-  pub decided : is_some (window_rule_of x.head m) ≡ true
 
 -- it reads none
 abbrev pub IsSpent : Filter → Type 0

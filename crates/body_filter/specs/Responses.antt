@@ -1,10 +1,10 @@
 -- What goes out of one exchange, by what it is judged by and by the bytes of its body.
-use Rattle.std.specs.Prelude.{ℕ, ◌%◌, Bool, ◌&&◌, ◌||◌, nat_lt, List, [], ◌++◌, length, Option, Some, None, if◌then◌else◌}
+use Rattle.std.specs.Prelude.{ℕ, ◌%◌, Bool, List, [], ◌++◌, length, if◌then◌else◌}
 use Rattle.response_rules.specs.declared.rules.Rule.{Rule}
 use Rattle.response_rules.specs.Rules.{is_allowing}
 use Rattle.response_rules.specs.Heads.{Head}
-use Rattle.response_rules.specs.Tables.{window_rule_of}
-use Rattle.response_rules.specs.Settled.{is_sent, is_hopeless, is_in_text}
+use Rattle.response_rules.specs.Tables.{rule_of}
+use Rattle.response_rules.specs.Settled.{is_sent, is_hopeless}
 use Rattle.http_exchange.specs.Chunks.{chunk_size, body_so_far, whole_body}
 use Rattle.body_filter.specs.Reply.{reply_of}
 
@@ -30,22 +30,13 @@ output_so_far x m = if is_sent x.head m then x.bytes ++ body_so_far x.chunked m 
 abbrev pub decided_by : Response → List ℕ → Rule → List ℕ
 decided_by x m rule = if is_allowing rule then x.bytes ++ whole_body x.chunked m else reply_of rule
 
--- the same, where no rule need decide: nothing goes out then
-abbrev pub decided : Response → List ℕ → Option Rule → List ℕ
-decided x m None = []
-decided x m (Some rule) = decided_by x m rule
-
 -- what goes out of a whole exchange with that body
 unfoldable pub whole_output : Response → List ℕ → List ℕ
-whole_output x m = decided x m (window_rule_of x.head m)
+whole_output x m = decided_by x m (rule_of x.head m)
 
--- the response can't be allowed any more: it is hopeless, or it is read as text and is longer than the limit
-unfoldable pub is_given_up : Head → List ℕ → Bool
-is_given_up h m = is_hopeless h m || (is_in_text h m && nat_lt h.limit (length m))
-
--- how many bytes of the body are kept back
-unfoldable pub held_of : Response → List ℕ → ℕ
-held_of x m =
+-- how many bytes of the body are kept back, by whether the script test is dead
+unfoldable pub held_of : Response → List ℕ → (dead : Bool) → ℕ
+held_of x m dead =
     if is_sent x.head m then (if x.chunked then length m % chunk_size else 0)
-    else if is_given_up x.head m then 0
+    else if is_hopeless x.head m dead then 0
     else length m

@@ -1,7 +1,7 @@
 //! A body held back, passed on or dropped.
 ghost use Rattle.std.specs.Prelude.{◌≤◌, vec_len, vec_capacity};
 
-use crate::judging::{Judgement, finish, judge, read_on, within};
+use crate::judging::{Judgement, finish, judge, read_on};
 use crate::phases::{Phase, idle_at_fault};
 use crate::pushing::{WriteFault, put_bytes};
 use crate::replying::put_reply;
@@ -9,13 +9,14 @@ use crate::writing::{put_last, put_piece, put_whole, release};
 use http_exchange::Framer;
 use orb_bytes::append;
 use orb_io::{NoMemory, Sink};
-use response_rules::{Decider, Rule, Verdict};
+use response_rules::{Decider, Verdict};
 use std::alloc::Global;
 
 /// The most bytes of a head.
 const HEAD: usize = 65_536;
 
-/// Holds back the body of one response at a time until it is known whether it may go out.
+/// Holds back the body of one response at a time until it is known whether it may go out. Once nothing can allow it,
+/// what is held is dropped, and the rest only read for the rule.
 #[derive(Drop)]
 pub struct Filter {
     limit: usize,
@@ -36,10 +37,9 @@ impl Filter {
     ghost use Rattle.orb_io.specs.Told.{Delivers};
     ghost use Rattle.orb_io.specs.Calls.{Calls};
     ghost use Rattle.response_rules.specs.Heads.{Head};
-    ghost use Rattle.response_rules.specs.Tables.{window_rule_of};
     ghost use Rattle.response_rules.specs.Reads.{HasRead as DeciderHasRead, IsVerdict};
     ghost use Rattle.body_filter.specs.Responses.{Response, response_of, output_so_far, whole_output, held_of};
-    ghost use Rattle.body_filter.specs.Reads.{HasRead, CanFeed, CanEnd, IsSpent, IsMadeFor, limit_of, held_in};
+    ghost use Rattle.body_filter.specs.Reads.{HasRead, CanFeed, IsSpent, IsMadeFor, limit_of, held_in, is_script_dead};
 
     /// A filter that holds back at most `limit` bytes of a body, from 1,024 to 268,435,456. It reserves
     /// room for them and for a head of 65,536 bytes.
@@ -132,11 +132,10 @@ impl Filter {
         }
     }
 
-    /// Ends a body that a rule of the head or the window decides, and tells the verdict. What is owed
-    /// goes out: the rest of an allowed response, or the reply that stands in the place of a blocked one.
+    /// Ends the body, and tells the verdict. What is owed goes out: the rest of an allowed response, or the reply that stands in the place of a blocked one.
     /// The filter then takes only `begin`.
     pub fn end<O: Sink>(&mut self, sink: &mut O) -> Result<Verdict, WriteFault>
-        requires { CanEnd self.old }
+        requires { CanFeed self.old }
         ensures delivers { (x : Response) (m : List ℕ) → HasRead self.old x m
             → Delivers result (O.told sink.old) (O.told sink.new)
             (output_so_far x m) (whole_output x m) (λ v. IsVerdict x.head m v) }
@@ -155,24 +154,14 @@ impl Filter {
     /// How many bytes of the body are held back.
     pub fn held(&self) -> usize
         ensures value { result ≡ held_in self.now }
-        ensures exact { (x : Response) (m : List ℕ) → HasRead self.now x m → result ≡ held_of x m }
+        ensures exact { (x : Response) (m : List ℕ) → HasRead self.now x m
+            → result ≡ held_of x m (is_script_dead self.now) }
         ensures bounded { result ≤ limit_of self.now }
     {
         match self.phase {
             Phase::Holding => self.held.len(),
             Phase::Passing => self.framer.kept(),
             Phase::Dropping | Phase::Idle => 0,
-        }
-    }
-
-    /// The rule of the head or the window that decides if the body ends here; `None` exactly where none
-    /// holds.
-    pub fn window_rule(&self) -> Option<Rule>
-        ensures { (x : Response) (m : List ℕ) → HasRead self.now x m → result ≡ window_rule_of x.head m }
-    {
-        match &self.decider {
-            Some(decider) => decider.window_rule(),
-            None => None,
         }
     }
 }
@@ -195,9 +184,7 @@ impl Filter {
         ensures calls { Calls O.Sink result sink.old sink.new }
         ensures limit { limit_of self.new ≡ limit_of self.old }
     {
-        let fits = piece.len() <= self.limit - self.held.len();
-        let judgement = within(read_on(&mut self.decider, piece), fits);
-        match judgement {
+        match read_on(&mut self.decider, piece) {
             Judgement::Allowed => {
                 self.phase = Phase::Passing;
                 let put = release(&mut self.framer, &self.head, &self.held, piece, sink);

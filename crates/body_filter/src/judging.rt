@@ -1,9 +1,9 @@
 //! How far a response is judged.
-ghost use Rattle.std.specs.Prelude.{◌≡◌, ◌||◌, ◌++◌, not, Bool, false, List, ℕ, IsSome};
+ghost use Rattle.std.specs.Prelude.{◌≡◌, ◌++◌, Bool, true, false, List, ℕ, IsSome};
 ghost use Rattle.response_rules.specs.Heads.{Head};
 ghost use Rattle.response_rules.specs.Settled.{is_sent, is_hopeless};
-ghost use Rattle.response_rules.specs.Reads.{HasRead as DeciderHasRead, IsVerdict, progress_of};
-ghost use Rattle.body_filter.specs.Judged.{Decides, CanDecide, judged};
+ghost use Rattle.response_rules.specs.Reads.{HasRead as DeciderHasRead, IsVerdict, progress_of, is_script_dead};
+ghost use Rattle.body_filter.specs.Judged.{Decides, CanDecide, dead_by, judged};
 
 use response_rules::{Decider, Progress, Verdict};
 
@@ -21,7 +21,7 @@ pub(crate) enum Judgement {
 /// The judgement on a response so far.
 pub(crate) fn judge(decider: &Decider) -> Judgement
     ensures { (h : Head) (m : List ℕ) → DeciderHasRead decider.now h m
-        → result ≡ judged (is_sent h m) (is_hopeless h m) }
+        → result ≡ judged (is_sent h m) (is_hopeless h m (is_script_dead decider.now)) }
 {
     judged_by(decider.progress(), decider.is_hopeless())
 }
@@ -31,7 +31,9 @@ pub(crate) fn read_on(decider: &mut Option<Decider>, piece: &[u8]) -> Judgement
     requires { IsSome decider.old }
     ensures reads { (h : Head) (m : List ℕ) → Decides decider.old h m → Decides decider.new h (m ++ piece.now) }
     ensures gives { (h : Head) (m : List ℕ) → Decides decider.old h m
-        → result ≡ judged (is_sent h (m ++ piece.now)) (is_hopeless h (m ++ piece.now)) }
+        → result ≡ judged (is_sent h (m ++ piece.now)) (is_hopeless h (m ++ piece.now) (dead_by decider.new)) }
+    ensures hopeless { (h : Head) (m : List ℕ) → Decides decider.old h m → is_hopeless h m (dead_by decider.old) ≡ true
+        → is_hopeless h (m ++ piece.now) (dead_by decider.new) ≡ true }
 {
     match decider {
         Some(decider) => {
@@ -69,17 +71,5 @@ fn blocked_if(blocked: bool) -> Judgement
         Judgement::Blocked
     } else {
         Judgement::Open
-    }
-}
-
-/// The judgement, where a body that isn't known to be allowed is given up unless it fits.
-pub(crate) fn within(judgement: Judgement, fits: bool) -> Judgement
-    ensures { (sent hopeless : Bool) → judgement ≡ judged sent hopeless
-        → result ≡ judged sent (hopeless || not fits) }
-{
-    match judgement {
-        Judgement::Open => blocked_if(!fits),
-        Judgement::Allowed => Judgement::Allowed,
-        Judgement::Blocked => Judgement::Blocked,
     }
 }

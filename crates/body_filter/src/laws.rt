@@ -1,19 +1,14 @@
 //! What the definitions say of one another.
-ghost use Rattle.std.specs.Prelude.{◌≡◌, ◌≤◌, ◌+◌, ◌*◌, ◌++◌, ℕ, List, [], true, false, length, Some, is_some};
+ghost use Rattle.std.specs.Prelude.{◌≡◌, ◌≤◌, ◌+◌, ◌*◌, ◌++◌, ℕ, List, [], Bool, true, false, length};
 ghost use Rattle.orb_io.specs.Told.{IsPrefix};
-ghost use Rattle.response_rules.specs.declared.rules.Rule.{Rule};
-ghost use Rattle.response_rules.specs.Rules.{is_allowing};
-ghost use Rattle.response_rules.specs.Heads.{Head};
-ghost use Rattle.response_rules.specs.Tables.{window_rule_of};
 ghost use Rattle.response_rules.specs.Settled.{is_hopeless, is_in_text};
-ghost use Rattle.body_filter.specs.Responses.{Response, output_so_far, whole_output, is_given_up, held_of};
+ghost use Rattle.body_filter.specs.Responses.{Response, output_so_far, whole_output, held_of};
 
 /// Law: what goes out of a prefix of a body is a prefix of what goes out of each longer one, and of what
-/// goes out of each whole body that begins so and that a rule of the head or the window decides.
+/// goes out of each whole body that begins so.
 pub fn output_grows()
     ensures front { (x : Response) (m more : List ℕ) → IsPrefix (output_so_far x m) (output_so_far x (m ++ more)) }
-    ensures whole { (x : Response) (m more : List ℕ) → is_some (window_rule_of x.head (m ++ more)) ≡ true
-        → IsPrefix (output_so_far x m) (whole_output x (m ++ more)) }
+    ensures whole { (x : Response) (m more : List ℕ) → IsPrefix (output_so_far x m) (whole_output x (m ++ more)) }
 {}
 
 /// Law: what goes out is at most the head and twice the body, and 128 bytes more at the end.
@@ -30,14 +25,7 @@ pub fn held_text_is_silent()
 /// Law: at most 1,024 bytes are held of a body that isn't read as text, at most the limit of one that is, and
 /// none of a response that is hopeless.
 pub fn held_is_bounded()
-    ensures window { (x : Response) (m : List ℕ) → is_in_text x.head m ≡ false → held_of x m ≤ 1024 }
-    ensures limit { (x : Response) (m : List ℕ) → 1024 ≤ x.head.limit → held_of x m ≤ x.head.limit }
-    ensures hopeless { (x : Response) (m : List ℕ) → is_hopeless x.head m ≡ true → held_of x m ≡ 0 }
-{}
-
-/// Law: a response that is given up is so for good, and no rule of the head or the window allows it.
-pub fn given_up_is_for_good()
-    ensures stays { (h : Head) (m more : List ℕ) → is_given_up h m ≡ true → is_given_up h (m ++ more) ≡ true }
-    ensures blocks { (h : Head) (m more : List ℕ) (r : Rule) → is_given_up h m ≡ true
-        → window_rule_of h (m ++ more) ≡ Some r → is_allowing r ≡ false }
+    ensures window { (x : Response) (m : List ℕ) (dead : Bool) → is_in_text x.head m ≡ false → held_of x m dead ≤ 1024 }
+    ensures limit { (x : Response) (m : List ℕ) (dead : Bool) → 1024 ≤ x.head.limit → held_of x m dead ≤ x.head.limit }
+    ensures hopeless { (x : Response) (m : List ℕ) (dead : Bool) → is_hopeless x.head m dead ≡ true → held_of x m dead ≡ 0 }
 {}

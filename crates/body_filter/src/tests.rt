@@ -95,17 +95,6 @@ fn steps(
     Ok(true)
 }
 
-/// Ends the body, where a rule of the head or the window decides.
-fn finish(filter: &mut Filter, sink: &mut MemorySink) -> Result<Option<Verdict>, WriteFault>
-    requires { CanFeed filter.old }
-    ensures { limit_of filter.new ≡ limit_of filter.old }
-{
-    match filter.window_rule() {
-        Some(_) => Ok(Some(filter.end(sink)?)),
-        None => Ok(None),
-    }
-}
-
 /// A whole response, with its body in pieces of that size.
 fn pass(
     filter: &mut Filter,
@@ -114,14 +103,14 @@ fn pass(
     body: &[u8],
     size: usize,
     sink: &mut MemorySink,
-) -> Result<Option<Verdict>, WriteFault>
+) -> Result<Verdict, WriteFault>
     requires made { IsMadeFor decider (limit_of filter.old) }
     requires some { 1 ≤ size }
     ensures { limit_of filter.new ≡ limit_of filter.old }
 {
     begin(filter, decider, chunked, sink)?;
     feed_in_pieces(filter, body, size, sink)?;
-    finish(filter, sink)
+    filter.end(sink)
 }
 
 fn begin(

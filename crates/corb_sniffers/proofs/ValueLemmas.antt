@@ -14,12 +14,13 @@ use Rattle.orb_bytes.specs.Fields.{same_name}
 use Rattle.orb_bytes.specs.Trim.{without_leading}
 use Rattle.corb_sniffers.specs.Breakers.{breakers, HasBreaker}
 use Rattle.corb_sniffers.specs.Html.{tags, EndsFirst, BeginsWithTag, SniffsHtml}
-use Rattle.corb_sniffers.specs.HtmlReading.{begins_ending, IsBehindComment, IsNoComment}
+use Rattle.corb_sniffers.specs.HtmlReading.{begins_ending, IsAfterComment, IsNoComment}
 use Rattle.corb_sniffers.specs.Xml.{SniffsXml}
 use Rattle.corb_sniffers.specs.Json.{SniffsJson}
-use Rattle.corb_sniffers.specs.JsonReading.{behind_colon}
+use Rattle.corb_sniffers.specs.JsonReading.{rest_after_colon}
 use Rattle.corb_sniffers.specs.Values.{has_breaker, sniffs_html, sniffs_xml, sniffs_json, begins_with_tag, after_end, after_comment, has_tag_within}
-use Rattle.corb_sniffers.proofs.SpaceLemmas.{leading_cut, leading_passed, leading_outside, leading_length}
+use Rattle.orb_bytes.proofs.TrimLemmas.{leading_of, without_leading-append}
+use Rattle.corb_sniffers.proofs.SpaceLemmas.{leading_outside, leading_length}
 use Rattle.corb_sniffers.proofs.TextLemmas.{any_listed, listed_any, breaker_stays, starts_to, starts_from}
 use Rattle.corb_sniffers.proofs.CommentLemmas.{end, occurs_further}
 use Rattle.corb_sniffers.proofs.HtmlLemmas.{spaces_alike, comment_alike, tag_first}
@@ -35,7 +36,7 @@ breaker_value window = (to, from) where
       let text = without_leading is_whitespace_byte window in
       let found = any_listed (starts_with nat_eq text) breakers is in
       let begun = starts_to found.0 text found.2 in
-      let cut = leading_cut is_whitespace_byte window in
+      let cut = leading_of is_whitespace_byte window in
       record {
         spaces = cut.0;
         space = cut.1;
@@ -48,7 +49,7 @@ breaker_value window = (to, from) where
   from h =
       let begins = h.begins in
       let same : without_leading is_whitespace_byte window ≡ begins.breaker ++ begins.rest =
-      ap (without_leading is_whitespace_byte) h.cut ∙ leading_passed is_whitespace_byte h.spaces h.rest h.space
+      ap (without_leading is_whitespace_byte) h.cut ∙ without_leading-append is_whitespace_byte h.spaces h.rest h.space
       ∙ breaker_stays h.rest begins ∙ begins.cut in
       listed_any (starts_with nat_eq (without_leading is_whitespace_byte window)) breakers begins.breaker begins.listed
       (ap (λ t. starts_with nat_eq t begins.breaker) same ∙ starts_from begins.breaker begins.rest)
@@ -60,22 +61,22 @@ unfolding sniffs_xml
 xml_value window = (to, from) where
   to : starts_with nat_eq (without_leading is_whitespace_byte window) (codes "<?xml") ≡ true → SniffsXml window
   to is =
-      let cut = leading_cut is_whitespace_byte window in
+      let cut = leading_of is_whitespace_byte window in
       let begun = starts_to (codes "<?xml") (without_leading is_whitespace_byte window) is in
       record { spaces = cut.0; space = cut.1; rest = begun.0; cut = cut.2 ∙ ap (λ t. cut.0 ++ t) begun.1 }
 
   from : SniffsXml window → starts_with nat_eq (without_leading is_whitespace_byte window) (codes "<?xml") ≡ true
   from h =
       ap (λ t. starts_with nat_eq t (codes "<?xml"))
-      (ap (without_leading is_whitespace_byte) h.cut ∙ leading_passed is_whitespace_byte h.spaces (codes "<?xml" ++ h.rest) h.space)
+      (ap (without_leading is_whitespace_byte) h.cut ∙ without_leading-append is_whitespace_byte h.spaces (codes "<?xml" ++ h.rest) h.space)
       ∙ starts_from (codes "<?xml") h.rest
 
 -- ---- JSON
 
 pub json_value : (window : List ℕ) → IsTrue (sniffs_json window) ↔ SniffsJson window
 unfolding sniffs_json
-json_value window = (to (behind_colon window) refl, λ h. ap is_some (json_from window h)) where
-  to : (after : Option (List ℕ)) → behind_colon window ≡ after → is_some after ≡ true → SniffsJson window
+json_value window = (to (rest_after_colon window) refl, λ h. ap is_some (json_from window h)) where
+  to : (after : Option (List ℕ)) → rest_after_colon window ≡ after → is_some after ≡ true → SniffsJson window
   to None none is = absurd (cc)
   to (Some rest) found is = json_to window rest found
 
@@ -106,13 +107,13 @@ tag_to text is =
       same = parts.0;
       ending = ending.0;
       ends = ending.3;
-      behind = ending.1;
+      rest = ending.1;
       cut = sym (take-append-drop count text) ∙ ap (λ t. take count text ++ t) ending.2;
     }
 
 tag_from : (text : List ℕ) → BeginsWithTag text → list_any (begins_with_tag text) tags ≡ true
 tag_from text h =
-    let after = h.ending ∷ h.behind in
+    let after = h.ending ∷ h.rest in
     let long = same_length h.written h.tag ((bytes_eq-Decides (str_to_ascii_lowercase h.written) (str_to_ascii_lowercase h.tag)).0 h.same) in
     let taken : take (length h.tag) text ≡ h.written =
     ap (take (length h.tag)) h.cut ∙ ap (λ n. take n (h.written ++ after)) (sym long) ∙ take-append_seam h.written after in
@@ -169,7 +170,7 @@ no_end (b ∷ text) none inside rest same = elim (cases_Bool (starts_with nat_eq
   at_byte (c ∷ inside) same other later =
       let others : text ≡ inside ++ (end ++ rest) = cc in later inside rest others
 
-comment_found : (text rest : List ℕ) → after_comment text ≡ Some rest → IsBehindComment text rest
+comment_found : (text rest : List ℕ) → after_comment text ≡ Some rest → IsAfterComment text rest
 comment_found text rest is = elim (cases_Bool (starts_with nat_eq text (codes "<!--"))) [
   | inl begun ↦
       let found : after_end (drop 4 text) ≡ Some rest = rw begun at is in

@@ -7,7 +7,7 @@ use Rattle.orb_bytes.specs.Trim.{without_leading}
 use Rattle.corb_sniffers.specs.Breakers.{breakers}
 use Rattle.corb_sniffers.specs.Html.{tags}
 use Rattle.corb_sniffers.specs.HtmlReading.{begins_ending}
-use Rattle.corb_sniffers.specs.JsonReading.{behind_colon}
+use Rattle.corb_sniffers.specs.JsonReading.{rest_after_colon}
 
 unfoldable pub has_breaker : List ℕ → Bool
 has_breaker window = list_any (starts_with nat_eq (without_leading is_whitespace_byte window)) breakers
@@ -16,7 +16,7 @@ unfoldable pub sniffs_xml : List ℕ → Bool
 sniffs_xml window = starts_with nat_eq (without_leading is_whitespace_byte window) (codes "<?xml")
 
 unfoldable pub sniffs_json : List ℕ → Bool
-sniffs_json window = is_some (behind_colon window)
+sniffs_json window = is_some (rest_after_colon window)
 
 -- the text begins with that tag, in either case, and a byte that ends it
 abbrev pub begins_with_tag : List ℕ → List ℕ → Bool

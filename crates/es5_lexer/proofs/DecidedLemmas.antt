@@ -4,6 +4,7 @@ use Rattle.std.proofs.Common.{◌≡◌, ◌⊎◌, ℕ, Bool, true, false, ◌&
 use Rattle.es5_lexer.specs.Characters.{is_line_end, is_space}
 use Rattle.es5_lexer.specs.Tokens.{is_barred}
 use Rattle.es5_lexer.specs.Texts.{Mark, mark, chars, ended_by, LexesEither}
+use Rattle.es5_lexer.specs.Cuts.{Cut, cuts, lexemes_of, cuts_at}
 use Rattle.es5_lexer.specs.Suits.{Suits}
 use Rattle.es5_lexer.specs.Places.{first, next, ended, is_dead, behind_slash}
 use Rattle.es5_lexer.specs.Reading.{token_of}
@@ -20,6 +21,7 @@ use Rattle.es5_lexer.specs.declared.states.State.TheVariants.{Start, Slash, Line
 use Rattle.es5_lexer.proofs.TokenLemmas.{name_unbarred}
 use Rattle.es5_lexer.proofs.StepLemmas.{line_step, space_step, slash_step, first_step, line_end_step, in_line_step, closing_step, in_block_step}
 use Rattle.es5_lexer.proofs.TokenSteps.{token_step, end_step, barred_step, open_step}
+use Rattle.es5_lexer.proofs.CutLemmas.{lexemes-append, lexemes-at, with_cuts, without_cuts, cuts_given}
 use Rattle.es5_lexer.proofs.EitherLemmas.{has_reading, reading_has}
 use Rattle.es5_lexer.proofs.LexerLemmas.{own_from, from_own, change, change_end, Fitting}
 use Rattle.es5_lexer.proofs.SlashLemmas.{comment_line_step, comment_block_step, slash_token_step, start_end, line_end, block_end, token_end, slash_end}
@@ -203,18 +205,19 @@ pub record Programs (IsProgram : List Lexeme → Type 0) : Type 0 where
   pub suits : (given tokens : List Lexeme) → IsProgram tokens → Suits given (goal given) tokens
 
 -- the goal suits the tokens before those of a program
-fits : (IsProgram : List Lexeme → Type 0) (p : Programs IsProgram) (given tokens : List Lexeme) → IsProgram (given ++ tokens) → Fitting (p.goal given) tokens
+fits : (IsProgram : List Lexeme → Type 0) (p : Programs IsProgram) (given : List Lexeme) (tokens : List Cut) → IsProgram (given ++ lexemes_of tokens)
+    → Fitting (p.goal given) tokens
 fits IsProgram p given tokens program x others is =
-    p.suits given (given ++ tokens) program x others (ap (λ (t : List Lexeme). given ++ t) is)
+    p.suits given (given ++ lexemes_of tokens) program x.lexeme (lexemes_of others) (ap (λ (t : List Cut). given ++ lexemes_of t) is)
 
 -- the text goes on from the state, after these tokens, to those of a program
 record Goes (IsProgram : List Lexeme → Type 0) (s : State) (read : List ℕ) (f : Bool) (given : List Lexeme) (u : List ℕ) : Type 0 where
   pub marks : List Mark
   pub end : Goal
-  pub tokens : List Lexeme
+  pub tokens : List Cut
   pub spells : chars marks ≡ u
   pub from : From s read f marks end tokens
-  pub program : IsProgram (given ++ tokens)
+  pub program : IsProgram (given ++ lexemes_of tokens)
 
 no_marks : (marks : List Mark) → chars marks ≡ [] → marks ≡ []
 no_marks [] is = refl
@@ -232,12 +235,13 @@ decided_end IsProgram p s read f given = let e = end_in s f (p.goal given) in by
     by_program k ends (inl program) = inl (record {
       marks = [];
       end = p.goal given;
-      tokens = given_by k (own s read) f;
+      tokens = cuts_at (given_by k (own s read) f) [];
       spells = refl;
-      from = from_own s read f [] (p.goal given) (given_by k (own s read) f) (ends.comes refl);
-      program = program;
+      from = from_own s read f [] (p.goal given) (cuts_at (given_by k (own s read) f) []) (ends.comes refl);
+      program = subst (λ (t : List Lexeme). IsProgram (given ++ t)) (sym (lexemes-at (given_by k (own s read) f) [])) program;
     })
-    by_program k ends (inr none) = inr (λ h. none (subst (λ (t : List Lexeme). IsProgram (given ++ t)) (ends.goes h.tokens (at_end h)).1 h.program))
+    by_program k ends (inr none) = inr (λ h. none (subst (λ (t : List Lexeme). IsProgram (given ++ t))
+        (ap lexemes_of (ends.goes h.tokens (at_end h)).1 ∙ lexemes-at (given_by k (own s read) f) []) h.program))
 
     by : (whole : Bool) (k : Option Kind) → Ends s read f (p.goal given) whole k → Decision (Goes IsProgram s read f given [])
     by true k ends = by_program k ends (p.decided (given ++ given_by k (own s read) f))
@@ -265,15 +269,23 @@ decided_from IsProgram p (c ∷ u) s read f given =
               (own_from s read f (mark m.reading c ∷ w) h.end h.tokens (subst (λ (d : ℕ). From s read f (mark m.reading d ∷ w) h.end h.tokens) same from)),
             )
 
+    ended : (k : Option Kind) → List Mark → List Cut
+    ended k w = cuts_at (given_by k (own s read) f) (mark (p.goal given) c ∷ w)
+
+    lexemes-ended : (k : Option Kind) (w : List Mark) (others : List Cut) → lexemes_of (ended k w ++ others) ≡ given_by k (own s read) f ++ lexemes_of others
+    lexemes-ended k w others =
+        lexemes-append (ended k w) others
+        ∙ ap (λ (z : List Lexeme). z ++ lexemes_of others) (lexemes-at (given_by k (own s read) f) (mark (p.goal given) c ∷ w))
+
     by : (k : Option Kind) (t : State) (flag : Bool) → Steps s read f (p.goal given) c k t flag → Decision (Goes IsProgram t (own_after k (own s read) c) flag (given ++ given_by k (own s read) f) u) → Decision (Goes IsProgram s read f given (c ∷ u))
     by k t flag steps (inl h) = inl (record {
       marks = mark (p.goal given) c ∷ h.marks;
       end = h.end;
-      tokens = given_by k (own s read) f ++ h.tokens;
+      tokens = ended k h.marks ++ h.tokens;
       spells = ap (λ (v : List ℕ). c ∷ v) h.spells;
-      from = from_own s read f (mark (p.goal given) c ∷ h.marks) h.end (given_by k (own s read) f ++ h.tokens)
-          (steps.comes h.marks h.end (given_by k (own s read) f ++ h.tokens) (record { others = h.tokens; is = refl; from = h.from }));
-      program = subst IsProgram (append_assoc given (given_by k (own s read) f) h.tokens) h.program;
+      from = from_own s read f (mark (p.goal given) c ∷ h.marks) h.end (ended k h.marks ++ h.tokens)
+          (steps.comes h.marks h.end (ended k h.marks ++ h.tokens) (record { others = h.tokens; is = refl; from = h.from }));
+      program = subst IsProgram (append_assoc given (given_by k (own s read) f) (lexemes_of h.tokens) ∙ ap (λ (z : List Lexeme). given ++ z) (sym (lexemes-ended k h.marks h.tokens))) h.program;
     })
     by k t flag steps (inr none) = inr (λ h. none (later h (first h)))
       where
@@ -286,7 +298,10 @@ decided_from IsProgram p (c ∷ u) s read f given =
               tokens = y.others;
               spells = spells;
               from = y.from;
-              program = subst IsProgram (ap (λ (z : List Lexeme). given ++ z) y.is ∙ sym (append_assoc given (given_by k (own s read) f) y.others)) h.program;
+              program = subst IsProgram
+                  (ap (λ (z : List Cut). given ++ lexemes_of z) y.is
+                  ∙ ap (λ (z : List Lexeme). given ++ z) (lexemes-ended k w y.others)
+                  ∙ sym (append_assoc given (given_by k (own s read) f) (lexemes_of y.others))) h.program;
             }
 
 -- the characters have tokens that are a program
@@ -301,8 +316,13 @@ decided_text IsProgram p u = by (decided_from IsProgram p u Start [] false [])
   where
     by : Decision (Goes IsProgram Start [] false [] u) → Decision (HasProgram IsProgram u)
     by (inl h) = inl (record {
-      tokens = h.tokens;
-      lexes = reading_has u h.tokens (record { read = h.marks; end = h.end; spells = h.spells; lexes = h.from });
+      tokens = lexemes_of h.tokens;
+      lexes = reading_has u (lexemes_of h.tokens) (record {
+        read = h.marks;
+        end = h.end;
+        spells = h.spells;
+        lexes = without_cuts false h.marks h.end h.tokens h.from;
+      });
       program = h.program;
     })
     by (inr none) = inr (λ h.
@@ -310,8 +330,8 @@ decided_text IsProgram p u = by (decided_from IsProgram p u Start [] false [])
         none (record {
           marks = r.read;
           end = r.end;
-          tokens = h.tokens;
+          tokens = cuts false r.lexes.items;
           spells = r.spells;
-          from = r.lexes;
-          program = h.program;
+          from = with_cuts false r.read r.end h.tokens r.lexes;
+          program = subst IsProgram (cuts_given false r.read r.end h.tokens r.lexes) h.program;
         }))

@@ -13,7 +13,7 @@ use Rattle.response_rules.specs.Texts.{is_script}
 use Rattle.response_rules.specs.Tables.{window_size, window_of, early_rule, rule_of}
 use Rattle.response_rules.specs.Settled.{is_full, is_some_rule, settled_rule, is_sent, is_blocked, is_in_text, is_hopeless, rule_in_window, head_rule_of}
 use Rattle.std.specs.Option.{option_or}
-use Rattle.response_rules.specs.Reads.{HasRead, script_of, text_of}
+use Rattle.response_rules.specs.Reads.{HasRead, is_script_dead}
 use Rattle.response_rules.proofs.TableLemmas.{early-halves}
 use Rattle.response_rules.proofs.TextLemmas.{no_script, no_script_blocks, over_blocks}
 use Rattle.response_rules.proofs.SettledLemmas.{full_longer, window_longer, settled-whole, blocked-longer, blocked-blocks, blocked-unsent, open-short}
@@ -135,20 +135,25 @@ alive_script t m reads is = by (is_dead t) refl
     by true dead = absurd (cc (never_script t m [] reads dead, ap is_script (append-nil m), is))
     by false alive = refl
 
-pub hopeless-blocks : (d : Decider) (h : Head) (m more : List ℕ) → HasRead d h m → is_hopeless h m (is_dead (script_of d)) ≡ true
+-- what the script test of a decider has read
+pub text_read : (d : Decider) (h : Head) (m : List ℕ) → HasRead d h m → is_in_text h m ≡ true → nat_lt h.limit (length m) ≡ false
+    → ScriptHasRead d.text.script m
+text_read d h m reads text within =
+    subst (λ (u : List ℕ). ScriptHasRead d.text.script u) (ap (λ b. if b then m else []) text) (reads.text within).script
+
+pub hopeless-blocks : (d : Decider) (h : Head) (m more : List ℕ) → HasRead d h m → is_hopeless h m (is_script_dead d) ≡ true
     → is_allowing (rule_of h (m ++ more)) ≡ false
-hopeless-blocks d h m more reads is = by (ways h m (is_dead (script_of d)) is)
+hopeless-blocks d h m more reads is = by (ways h m (is_script_dead d) is)
   where
     undecided : is_in_text h m ≡ true → early_rule h (m ++ more) ≡ None
     undecided t = early-longer h m more (text_full h m t) ∙ text_undecided h m t
 
-    by_limit_or : (o : Bool) → nat_lt h.limit (length m) ≡ o → is_in_text h m ≡ true → is_dead (script_of d) ≡ true → is_allowing (rule_of h (m ++ more)) ≡ false
+    by_limit_or : (o : Bool) → nat_lt h.limit (length m) ≡ o → is_in_text h m ≡ true → is_script_dead d ≡ true → is_allowing (rule_of h (m ++ more)) ≡ false
     by_limit_or true over t dead = over_blocks h (m ++ more) (undecided t) (over-longer h.limit m more over)
     by_limit_or false within t dead =
-        let read = subst (λ (u : List ℕ). ScriptHasRead d.text.script u) (ap (λ b. if b then m else []) t) (reads.text within).script in
-        no_script_blocks h (m ++ more) (undecided t) (never_script d.text.script m more read dead)
+        no_script_blocks h (m ++ more) (undecided t) (never_script d.text.script m more (text_read d h m reads t within) dead)
 
-    by : Ways h m (is_dead (script_of d)) → is_allowing (rule_of h (m ++ more)) ≡ false
+    by : Ways h m (is_script_dead d) → is_allowing (rule_of h (m ++ more)) ≡ false
     by (by_rule b) = blocked-blocks h m more b
     by (by_limit t o) = over_blocks h (m ++ more) (undecided t) (over-longer h.limit m more o)
     by (by_death t dead) = by_limit_or (nat_lt h.limit (length m)) refl t dead

@@ -49,6 +49,10 @@ text_of h m = if is_in_text h m then m else []
 abbrev pub script_of : Decider → ScriptTest
 script_of d = d.text.script
 
+-- and whether that is dead
+abbrev pub is_script_dead : Decider → Bool
+is_script_dead d = is_dead (script_of d)
+
 -- so many bytes have been counted
 pub record HasCounted (c : Count) (limit n : ℕ) : Type 0 where
   pub left : c.left ≡ limit - n

@@ -67,11 +67,10 @@ pub struct Decider {
 impl Decider {
     ghost use Rattle.std.specs.Prelude.{Bool, Option, Some, true, false, [], IsTrue};
     ghost use Rattle.header_values.specs.Fields.{AreOfHead, pairs_in};
-    ghost use Rattle.es5_machine.specs.ScriptTests.{is_dead};
     ghost use Rattle.response_rules.specs.Heads.{Head, HasEssence};
     ghost use Rattle.response_rules.specs.Tables.{rule_of};
     ghost use Rattle.response_rules.specs.Settled.{is_sent, is_in_text, is_hopeless};
-    ghost use Rattle.response_rules.specs.Reads.{HasRead, CanFinish, IsVerdict, head_of, script_of};
+    ghost use Rattle.response_rules.specs.Reads.{HasRead, CanFinish, IsVerdict, head_of, is_script_dead};
 
     /// A decider for a response: the rules that judge it, its status and fields, the state of the media resource that the
     /// request is for, whether the request is opaque, and how many bytes of a body are read for a script. The
@@ -118,8 +117,8 @@ impl Decider {
         ensures reads { (h : Head) (m : List ℕ) → HasRead self.old h m → HasRead self.new h (m ++ piece.now) }
         ensures gives { (h : Head) (m : List ℕ) → HasRead self.old h m → result ≡ progress_of (is_sent h (m ++ piece.now)) }
         ensures hopeless { (h : Head) (m : List ℕ) → HasRead self.old h m
-            → is_hopeless h m (is_dead (script_of self.old)) ≡ true
-            → is_hopeless h (m ++ piece.now) (is_dead (script_of self.new)) ≡ true }
+            → is_hopeless h m (is_script_dead self.old) ≡ true
+            → is_hopeless h (m ++ piece.now) (is_script_dead self.new) ≡ true }
     {
         let count = self.count.and(piece.len());
         if self.window.is_full() {
@@ -150,7 +149,7 @@ impl Decider {
     /// blocks is known for good, or the body is read as text and is longer than the limit or the script test is dead.
     pub fn is_hopeless(&self) -> bool
         ensures exact { (h : Head) (m : List ℕ) → HasRead self.now h m
-            → result ≡ is_hopeless h m (is_dead (script_of self.now)) }
+            → result ≡ is_hopeless h m (is_script_dead self.now) }
         ensures never { (h : Head) (m more : List ℕ) → HasRead self.now h m → IsTrue result
             → is_allowing (rule_of h (m ++ more)) ≡ false }
     {
@@ -177,19 +176,18 @@ impl Decider {
 impl Decider {
     ghost use Rattle.std.specs.Prelude.{Bool, Some, None, true, false};
     ghost use Rattle.std.specs.Option.{option_or};
-    ghost use Rattle.es5_machine.specs.ScriptTests.{is_dead};
     ghost use Rattle.response_rules.specs.Heads.{Head};
     ghost use Rattle.response_rules.specs.Tables.{early_rule, rule_of};
     ghost use Rattle.response_rules.specs.Settled.{is_full, rule_in_window};
     ghost use Rattle.response_rules.specs.Facts.{facts_of};
-    ghost use Rattle.response_rules.specs.Reads.{HasRead, Stands, TextStands, script_of};
+    ghost use Rattle.response_rules.specs.Reads.{HasRead, Stands, TextStands, is_script_dead};
 
     /// Reads a piece of a body whose window is full. One that is over the limit isn't read as text any more.
     fn read_on(&mut self, piece: &[u8], over: bool)
         ensures stands { (h : Head) (m : List ℕ) → is_full m ≡ true → Stands self.old h m → Stands self.new h (m ++ piece.now) }
         ensures text { (h : Head) (m : List ℕ) → is_full m ≡ true → Stands self.old h m
             → TextStands self.old h m over → TextStands self.new h (m ++ piece.now) over }
-        ensures dead { is_dead (script_of self.old) ≡ true → is_dead (script_of self.new) ≡ true }
+        ensures dead { is_script_dead self.old ≡ true → is_script_dead self.new ≡ true }
     {
         if self.settled.is_none() && !over {
             self.text.feed(piece);
@@ -201,7 +199,7 @@ impl Decider {
         ensures stands { (h : Head) (m : List ℕ) → is_full m ≡ false → Stands self.old h m → Stands self.new h (m ++ piece.now) }
         ensures text { (h : Head) (m : List ℕ) → is_full m ≡ false → Stands self.old h m
             → TextStands self.old h m over → TextStands self.new h (m ++ piece.now) over }
-        ensures dead { is_dead (script_of self.old) ≡ true → is_dead (script_of self.new) ≡ true }
+        ensures dead { is_script_dead self.old ≡ true → is_script_dead self.new ≡ true }
     {
         let rest = fill(&mut self.window, piece);
         if self.window.is_full() {

@@ -1,9 +1,9 @@
 //! What the definitions say of one another.
-ghost use Rattle.std.specs.Prelude.{◌≡◌, ◌↔◌, ◌<◌, ◌++◌, IsTrue, List, ℕ, Bool, true, false, length};
+ghost use Rattle.std.specs.Prelude.{◌≡◌, ◌↔◌, ◌<◌, ◌≤◌, ◌++◌, IsTrue, List, ℕ, Bool, true, false, length};
 ghost use Rattle.text_stream.specs.Decoding.{characters_of};
 ghost use Rattle.json_recogniser.specs.Grammar.{IsJson};
 ghost use Rattle.es5_machine.specs.Scripts.{IsScript};
-ghost use Rattle.es5_machine.specs.ScriptTests.{is_dead};
+ghost use Rattle.es5_machine.specs.ScriptTests.{HasRead as ScriptHasRead, is_dead};
 ghost use Rattle.response_rules.specs.declared.rules.Rule.{Rule};
 ghost use Rattle.response_rules.specs.declared.deciding.Decider.{Decider};
 ghost use Rattle.response_rules.specs.Rules.{is_allowing};
@@ -11,7 +11,7 @@ ghost use Rattle.response_rules.specs.Heads.{Head, HasOneEssence};
 ghost use Rattle.response_rules.specs.Texts.{is_script, is_json};
 ghost use Rattle.response_rules.specs.Tables.{IsRule, rule_of, window_size};
 ghost use Rattle.response_rules.specs.Settled.{IsSettled, settled_rule, is_sent, is_blocked, is_in_text, is_hopeless};
-ghost use Rattle.response_rules.specs.Reads.{HasRead, script_of};
+ghost use Rattle.response_rules.specs.Reads.{HasRead, script_of, is_script_dead};
 
 /// Law: fields state one essence at most.
 pub fn one_essence()
@@ -74,6 +74,14 @@ pub fn text_is_for_good()
     ensures unsent { (h : Head) (prefix : List ℕ) → is_in_text h prefix ≡ true → is_sent h prefix ≡ false }
 {}
 
+/// Law: while a body is read as text, the script test that its decider holds has read it, unless it is longer than the
+/// limit; and its death is that of which [`crate::Decider::is_hopeless`] speaks.
+pub fn text_is_read()
+    ensures reads { (d : Decider) (h : Head) (m : List ℕ) → HasRead d h m → is_in_text h m ≡ true → length m ≤ h.limit
+        → ScriptHasRead (script_of d) m }
+    ensures dead { (d : Decider) → is_script_dead d ≡ is_dead (script_of d) }
+{}
+
 /// Law: once a response is hopeless it is so for good, and nothing of it may be passed on; and where a decider has
 /// read it, no rule allows it, however its body goes on.
 pub fn hopeless_is_for_good()
@@ -82,7 +90,7 @@ pub fn hopeless_is_for_good()
     ensures unsent { (h : Head) (prefix : List ℕ) (dead : Bool) → is_hopeless h prefix dead ≡ true
         → is_sent h prefix ≡ false }
     ensures blocks { (d : Decider) (h : Head) (prefix more : List ℕ) → HasRead d h prefix
-        → is_hopeless h prefix (is_dead (script_of d)) ≡ true → is_allowing (rule_of h (prefix ++ more)) ≡ false }
+        → is_hopeless h prefix (is_script_dead d) ≡ true → is_allowing (rule_of h (prefix ++ more)) ≡ false }
 {}
 
 /// Law: a body that may not be passed on, isn't hopeless and isn't read as text is shorter than the window.

@@ -1,4 +1,5 @@
-use Rattle.body_filter.proofs.FilterLemmas.{so_far-unsent, text-unsent}
+use Rattle.response_rules.proofs.HopelessLemmas.{text-unsent}
+use Rattle.body_filter.proofs.FilterLemmas.{so_far-unsent}
 use Rattle.body_filter.proofs.laws.held_text_is_silent.Goals as goal
 
 pub returns : goal.returns

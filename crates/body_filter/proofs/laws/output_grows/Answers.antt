@@ -7,7 +7,7 @@ use Rattle.body_filter.proofs.laws.output_grows.Goals as goal
 pub returns : goal.returns
 returns c = record {
   front = front-grows;
-  whole = λ x m more decided.
+  whole = λ x m more.
       IsPrefix-trans (output_so_far x m) (output_so_far x (m ++ more)) (whole_output x (m ++ more)) (front-grows x m more)
-      (front-whole_now x (m ++ more) decided);
+      (front-whole_now x (m ++ more));
 }

@@ -6,7 +6,7 @@ use Rattle.body_filter.specs.Responses.{response_of, output_so_far}
 use Rattle.http_exchange.proofs.FramingLaws.{kept-none}
 use Rattle.body_filter.proofs.FilterLemmas.{so_far-unsent}
 use Rattle.body_filter.proofs.OwedLemmas.{first-sent}
-use Rattle.body_filter.proofs.PhaseLemmas.{reads-holding, reads-passing, reads-dropping, made-limit, judged-allowed, judged-blocked, judged-open, given_up-first}
+use Rattle.body_filter.proofs.PhaseLemmas.{reads-holding, reads-passing, reads-dropping, made-limit, judged-allowed, judged-blocked, judged-open}
 use Rattle.body_filter.proofs.filtering.Filter.begin.Goals as goal
 
 pub returns-in-Allowed-clause-delivers : goal.returns-in-Allowed-clause-delivers
@@ -31,7 +31,7 @@ returns-in-Blocked-clause-delivers g c = λ h r.
     Gives-none _ [] _ (g.met.O.Sink.told_agrees c.args.sink.now) (
       sym (so_far-unsent x [] judged.0),
       (reads-dropping _ x [] (made-limit c.args.decider _ h c.requires.made r) r refl
-          (record { over = given_up-first h ∙ judged.1 })),
+          (record { over = judged.1 })),
     )
 
 pub returns-in-Open-clause-delivers : goal.returns-in-Open-clause-delivers
@@ -43,7 +43,7 @@ returns-in-Open-clause-delivers g c = λ h r.
       (reads-holding _ x [] (made-limit c.args.decider _ h c.requires.made r) r refl
           (record {
             unsent = judged.0;
-            hopeful = given_up-first h ∙ judged.1;
+            hopeful = judged.1;
             head = c.append.ensures.items ∙ ap (λ t. t ++ c.args.head.now) c.clear-in-Open.ensures.items;
             held = c.clear.ensures.items;
             chunked = c.start.ensures.chunked;

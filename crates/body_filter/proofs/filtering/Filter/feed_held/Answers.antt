@@ -3,7 +3,7 @@ use Rattle.orb_io.proofs.GivesLemmas.{Gives-none, Delivers-put}
 use Rattle.response_rules.specs.Settled.{is_sent}
 use Rattle.http_exchange.specs.Framers.{is_chunked_by, kept_by}
 use Rattle.body_filter.specs.Responses.{output_so_far}
-use Rattle.body_filter.proofs.FilterLemmas.{so_far-unsent, given_up-fits}
+use Rattle.body_filter.proofs.FilterLemmas.{so_far-unsent}
 use Rattle.body_filter.proofs.OwedLemmas.{release-is, release-kept}
 use Rattle.body_filter.proofs.PhaseLemmas.{reads-holding, reads-passing, reads-dropping, holds-of, judged-allowed, judged-blocked, judged-open, on_ok-both}
 use Rattle.body_filter.proofs.filtering.Filter.feed_held.Goals as goal
@@ -14,7 +14,7 @@ returns-in-Allowed-clause-delivers g c = λ x m r.
     let p = c.args.piece.now in
     let s = holds-of f x m c.requires.holding r in
     let sent : is_sent x.head (m ++ p) ≡ true =
-    judged-allowed _ _ (c.in-Allowed.ensures _ _ (c.read_on.ensures.gives x.head m r.decides)) in
+    judged-allowed _ _ (sym c.in-Allowed.is ∙ c.read_on.ensures.gives x.head m r.decides) in
     let w = f.framer in
     let head = c.deref.result.now in
     let held = c.deref-in-Allowed.result.now in
@@ -36,11 +36,11 @@ returns-in-Blocked-clause-delivers g c = λ x m r.
     let f = c.args.self.now in
     let p = c.args.piece.now in
     let s = holds-of f x m c.requires.holding r in
-    let judged = judged-blocked _ _ (c.in-Blocked.ensures _ _ (c.read_on.ensures.gives x.head m r.decides)) in
+    let judged = judged-blocked _ _ (sym c.in-Blocked.is ∙ c.read_on.ensures.gives x.head m r.decides) in
     Gives-none _ (output_so_far x m) _ (g.met.O.Sink.told_agrees c.args.sink.now) (
       so_far-unsent x m s.unsent ∙ sym (so_far-unsent x (m ++ p) judged.0),
       (reads-dropping _ x (m ++ p) r.limit (c.read_on.ensures.reads x.head m r.decides) refl
-          (record { over = given_up-fits x.head m p f.limit c.len.result _ r.limit (c.len.ensures ∙ (f.held.ok.0 ∙ ap length s.held)) (omega arith) (omega arith) judged.0 judged.1 })),
+          (record { over = judged.1 })),
     )
 
 pub returns-in-Open-clause-delivers : goal.returns-in-Open-clause-delivers
@@ -48,13 +48,13 @@ returns-in-Open-clause-delivers g c = λ x m r.
     let f = c.args.self.now in
     let p = c.args.piece.now in
     let s = holds-of f x m c.requires.holding r in
-    let judged = judged-open _ _ (c.in-Open.ensures _ _ (c.read_on.ensures.gives x.head m r.decides)) in
+    let judged = judged-open _ _ (sym c.in-Open.is ∙ c.read_on.ensures.gives x.head m r.decides) in
     Gives-none _ (output_so_far x m) _ (g.met.O.Sink.told_agrees c.args.sink.now) (
       so_far-unsent x m s.unsent ∙ sym (so_far-unsent x (m ++ p) judged.0),
       (reads-holding _ x (m ++ p) r.limit (c.read_on.ensures.reads x.head m r.decides) c.requires.holding
           (record {
             unsent = judged.0;
-            hopeful = given_up-fits x.head m p f.limit c.len.result _ r.limit (c.len.ensures ∙ (f.held.ok.0 ∙ ap length s.held)) (omega arith) (omega arith) judged.0 judged.1;
+            hopeful = judged.1;
             head = s.head;
             held = c.append.ensures.items ∙ ap (λ t. t ++ p) s.held;
             chunked = s.chunked;

@@ -12,7 +12,7 @@ returns-in-Holding-clause-value c = rw c.in-Holding.is (c.len.ensures ∙ c.args
 pub returns-in-Holding-clause-exact : goal.returns-in-Holding-clause-exact
 returns-in-Holding-clause-exact c = λ x m r.
     let s = holds-of c.args.self.now x m c.in-Holding.is r in
-    c.len.ensures ∙ (c.args.self.now.held.ok.0 ∙ (ap length s.held ∙ sym (held-holding x m s.unsent s.hopeful)))
+    c.len.ensures ∙ (c.args.self.now.held.ok.0 ∙ (ap length s.held ∙ sym (held-holding x m _ s.unsent s.hopeful)))
 
 pub returns-in-Passing-clause-value : goal.returns-in-Passing-clause-value
 unfolding held_in
@@ -21,7 +21,7 @@ returns-in-Passing-clause-value c = rw c.in-Passing.is c.kept.ensures.value
 pub returns-in-Passing-clause-exact : goal.returns-in-Passing-clause-exact
 returns-in-Passing-clause-exact c = λ x m r.
     let s = passes-of c.args.self.now x m c.in-Passing.is r in
-    c.kept.ensures.value ∙ (ap length s.rest ∙ (kept-length x.chunked m ∙ sym (held-passing x m s.sent)))
+    c.kept.ensures.value ∙ (ap length s.rest ∙ (kept-length x.chunked m ∙ sym (held-passing x m _ s.sent)))
 
 pub returns-in-Dropping-clause-value : goal.returns-in-Dropping-clause-value
 unfolding held_in
@@ -30,6 +30,6 @@ returns-in-Dropping-clause-value c = elim c.in-Dropping.is [ inl is ↦ rw is re
 pub returns-in-Dropping-clause-exact : goal.returns-in-Dropping-clause-exact
 returns-in-Dropping-clause-exact c = λ x m r.
     elim c.in-Dropping.is [
-      | inl is ↦ sym (held-dropping x m (drops-of c.args.self.now x m is r).over)
+      | inl is ↦ sym (held-dropping x m _ (drops-of c.args.self.now x m is r).over)
       | inr is ↦ absurd (idle-spent c.args.self.now is x m r)
     ]
