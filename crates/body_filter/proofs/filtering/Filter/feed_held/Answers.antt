@@ -1,9 +1,10 @@
-use Rattle.std.proofs.Common.{◌≡◌, ◌++◌, length, true, refl, sym, ap, ◌∙◌, arith}
+use Rattle.std.proofs.Common.{◌≡◌, ◌++◌, length, true, length-append, refl, sym, ap, ◌∙◌, arith}
 use Rattle.orb_io.proofs.GivesLemmas.{Gives-none, Delivers-put}
 use Rattle.response_rules.specs.Settled.{is_sent}
 use Rattle.http_exchange.specs.Framers.{is_chunked_by, kept_by}
 use Rattle.body_filter.specs.Responses.{output_so_far}
 use Rattle.body_filter.proofs.FilterLemmas.{so_far-unsent}
+use Rattle.body_filter.proofs.HeldLemmas.{held-fits}
 use Rattle.body_filter.proofs.OwedLemmas.{release-is, release-kept}
 use Rattle.body_filter.proofs.PhaseLemmas.{reads-holding, reads-passing, reads-dropping, holds-of, judged-allowed, judged-blocked, judged-open, on_ok-both}
 use Rattle.body_filter.proofs.filtering.Filter.feed_held.Goals as goal
@@ -61,3 +62,24 @@ returns-in-Open-clause-delivers g c = λ x m r.
             rest = s.rest;
           })),
     )
+
+-- what is kept then fits
+pub append-requires : goal.append-requires
+append-requires g c =
+    let f = c.args.self.now in
+    let p = c.args.piece.now in
+    let r = c.requires.can in
+    let s = holds-of f r.x r.m c.requires.holding r.reads in
+    let judged = judged-open _ _ (sym c.in-Open.is ∙ c.read_on.ensures.gives r.x.head r.m r.reads.decides) in
+    let fits = held-fits r.x.head (r.m ++ p) _ (omega (arith, r.reads.limit)) judged.0 judged.1 in
+    omega (arith, fits, r.reads.limit, length-append r.m p, f.held.ok.0, ap length s.held)
+
+pub invariant_of-self-in-Open-clause-fits : goal.invariant_of-self-in-Open-clause-fits
+invariant_of-self-in-Open-clause-fits g c =
+    let f = c.args.self.now in
+    let p = c.args.piece.now in
+    let r = c.requires.can in
+    let s = holds-of f r.x r.m c.requires.holding r.reads in
+    let judged = judged-open _ _ (sym c.in-Open.is ∙ c.read_on.ensures.gives r.x.head r.m r.reads.decides) in
+    let fits = held-fits r.x.head (r.m ++ p) _ (omega (arith, r.reads.limit)) judged.0 judged.1 in
+    omega (arith, fits, r.reads.limit, length-append r.m p, c.append.new.text.ok.0, ap length c.append.ensures.items, ap length s.held, length-append f.held.items p)
