@@ -20,6 +20,14 @@ const PNG: &[u8] = b"\x89PNG\r\n\x1a\n";
 const REPLY: &[u8] =
     b"HTTP/1.1 403 Forbidden\r\nContent-Length: 0\r\nOrb-Rule: nosniff-blocklisted\r\n\r\n";
 
+const LONG_REPLY: &[u8] =
+    b"HTTP/1.1 403 Forbidden\r\nContent-Length: 0\r\nOrb-Rule: body-limit\r\n\r\n";
+
+const JSON_REPLY: &[u8] = b"HTTP/1.1 403 Forbidden\r\nContent-Length: 0\r\nOrb-Rule: json\r\n\r\n";
+
+const TEXT_REPLY: &[u8] =
+    b"HTTP/1.1 403 Forbidden\r\nContent-Length: 0\r\nOrb-Rule: not-script\r\n\r\n";
+
 /// The fields of a response, whether the request is opaque, and whether the body came in chunks.
 #[derive(Clone, Copy, Debug)]
 struct Response<'a> {
@@ -154,6 +162,8 @@ fn allowed_bodies_go_out_and_blocked_ones_dont(rt: HostRuntime) -> Result<(), Fa
     )?;
     let long = text(alloc, b"", 2049, b"")?;
     let one = text(alloc, b"", 1024, b"")?;
+    let script = text(alloc, b"", 2048, b"")?;
+    let sent_script = text(alloc, HEAD, 2048, b"")?;
     let less = text(alloc, b"", 1019, b"")?;
     let sized = text(alloc, HEAD, 2049, b"")?;
     let image = text(alloc, PNG, 2000, b"")?;
@@ -165,55 +175,58 @@ fn allowed_bodies_go_out_and_blocked_ones_dont(rt: HostRuntime) -> Result<(), Fa
         1019,
         b"\r\n0\r\n\r\n",
     )?;
-    let rows: [(Response, &[u8], Option<Rule>, &[u8]); 10] = [
+    let rows: [(Response, &[u8], Rule, &[u8]); 13] = [
         (
             made_with(BARE, false, false),
             &long,
-            Some(Rule::NotOpaque),
+            Rule::NotOpaque,
             &sized,
         ),
         (
             made_with(BARE, false, true),
             &long,
-            Some(Rule::NotOpaque),
+            Rule::NotOpaque,
             &chunks,
         ),
-        (
-            made_with(BARE, false, true),
-            &one,
-            Some(Rule::NotOpaque),
-            &full,
-        ),
+        (made_with(BARE, false, true), &one, Rule::NotOpaque, &full),
         (
             made_with(BARE, false, true),
             &less,
-            Some(Rule::NotOpaque),
+            Rule::NotOpaque,
             &hexadecimal,
         ),
+        (made_with(BARE, false, false), b"", Rule::NotOpaque, HEAD),
+        (made_with(BARE, true, false), &image, Rule::Image, &sent),
+        (made_with(BARE, true, false), PNG, Rule::Image, &short),
+        (made_with(BARE, true, true), &long, Rule::Untyped, &chunks),
         (
-            made_with(BARE, false, false),
-            b"",
-            Some(Rule::NotOpaque),
-            HEAD,
-        ),
-        (
-            made_with(BARE, true, false),
-            &image,
-            Some(Rule::Image),
-            &sent,
-        ),
-        (made_with(BARE, true, false), PNG, Some(Rule::Image), &short),
-        (
-            made_with(BARE, true, true),
+            made_with(PLAIN, true, false),
             &long,
-            Some(Rule::Untyped),
-            &chunks,
+            Rule::BodyLimit,
+            LONG_REPLY,
         ),
-        (made_with(PLAIN, true, false), &long, None, b""),
+        (
+            made_with(PLAIN, true, false),
+            &script,
+            Rule::Script,
+            &sent_script,
+        ),
+        (
+            made_with(PLAIN, true, false),
+            b"[1]",
+            Rule::Json,
+            JSON_REPLY,
+        ),
+        (
+            made_with(PLAIN, true, true),
+            b"a b",
+            Rule::NotScript,
+            TEXT_REPLY,
+        ),
         (
             made_with(HTML, true, false),
             &long,
-            Some(Rule::NosniffBlocklisted),
+            Rule::NosniffBlocklisted,
             REPLY,
         ),
     ];
@@ -230,7 +243,7 @@ fn allowed_bodies_go_out_and_blocked_ones_dont(rt: HostRuntime) -> Result<(), Fa
                 size,
                 &mut sink,
             )?;
-            assert_eq!(rt; verdict.map(|v| v.rule), rule, "{response:?}");
+            assert_eq!(rt; verdict.rule, rule, "{response:?}");
             assert_eq!(rt; sink.bytes(), want, "{response:?}");
         }
     }
@@ -242,8 +255,9 @@ fn held_bytes_are_counted(rt: HostRuntime) -> Result<(), Fail> {
     let alloc = rt.alloc();
     let image = text(alloc, PNG, 2041, b"")?;
     let long = text(alloc, b"", 2049, b"")?;
+    let two_names = text(alloc, b"x x ", 2000, b"")?;
     // how long each piece is, what is held after it, and how much went out
-    let rows: [(Response, &[u8], &[(usize, usize, usize)]); 6] = [
+    let rows: [(Response, &[u8], &[(usize, usize, usize)]); 7] = [
         (
             made_with(BARE, false, false),
             &long,
@@ -268,6 +282,11 @@ fn held_bytes_are_counted(rt: HostRuntime) -> Result<(), Fail> {
             made_with(PLAIN, true, false),
             &long,
             &[(1024, 1024, 0), (1023, 2047, 0), (1, 2048, 0), (1, 0, 0)],
+        ),
+        (
+            made_with(PLAIN, true, false),
+            &two_names,
+            &[(512, 512, 0), (512, 0, 0), (512, 0, 0)],
         ),
         (
             made_with(HTML, true, false),
@@ -335,7 +354,7 @@ fn a_fault_leaves_a_front_and_a_filter_that_begins_anew(rt: HostRuntime) -> Resu
             4,
             &mut other,
         )?;
-        assert_eq!(rt; second.map(|v| v.rule), Some(Rule::NosniffBlocklisted));
+        assert_eq!(rt; second.rule, Rule::NosniffBlocklisted);
         assert_eq!(rt; other.bytes(), REPLY);
     }
     Ok(())

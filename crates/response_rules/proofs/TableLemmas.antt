@@ -119,7 +119,7 @@ some_rule h body = by (early_rule h body) refl
     by None is =
         let holds : is_some (first_rule (end_rows_by Orb h body)) ≡ true = some_holds (orb_end_rows h body) refl in
         ap is_some (rule-halves h body) ∙ ap (λ o. is_some (option_or o (end_rule h body))) is
-            ∙ subst (λ (p : Policy). is_some (first_rule (end_rows_by p h body)) ≡ true) (sym (undecided_is_orb h body is)) holds
+        ∙ subst (λ (p : Policy). is_some (first_rule (end_rows_by p h body)) ≡ true) (sym (undecided_is_orb h body is)) holds
 
 pub first_is : (h : Head) (body : List ℕ) → first_rule (rows_of h body) ≡ Some (rule_of h body)
 unfolding rule_of

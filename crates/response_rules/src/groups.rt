@@ -4,7 +4,10 @@ ghost use Rattle.header_values.specs.Fields.{AreOfHead, pairs_in};
 ghost use Rattle.response_rules.specs.Facts.{AreGroups};
 
 use header_values::{Fields, Scratch, extract_essence};
-use mime_types::{is_blocklisted, is_html, is_json, is_media, is_never_sniffed, is_safelisted, is_text_plain, is_xml};
+use mime_types::{
+    is_blocklisted, is_html, is_json, is_media, is_never_sniffed, is_safelisted, is_text_plain,
+    is_xml,
+};
 
 /// Whether there is a type, and the groups that have it.
 #[derive(Clone, Copy)]

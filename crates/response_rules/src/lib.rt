@@ -21,9 +21,9 @@ mod verdicts;
 
 pub use deciding::Decider;
 pub use laws::{
-    blocked_is_for_good, hopeless_is_for_good, judgement_is_settled, one_essence, open_body_is_short,
-    rule_is_computed, sent_is_for_good, settled_is_computed, settled_is_for_good, text_is_for_good, text_is_read,
-    texts_are_decided,
+    blocked_is_for_good, hopeless_is_for_good, judgement_is_settled, one_essence,
+    open_body_is_short, rule_is_computed, sent_is_for_good, settled_is_computed,
+    settled_is_for_good, text_is_for_good, text_is_read, texts_are_decided,
 };
 pub use rules::Rule;
 pub use verdicts::{Policy, Progress, Verdict};

@@ -9,7 +9,7 @@ pieces-preserved c =
     let piece = c.split_at.result.0.now in
     let rest = c.split_at.result.1.now in
     let whole : c.pieces.rest.now ≡ piece ++ rest =
-    rw (c.split_at.ensures.prefix, c.split_at.ensures.back) (sym (take-append-drop c.min.result c.pieces.rest.now)) in (
+    rw (c.split_at.ensures.front, c.split_at.ensures.back) (sym (take-append-drop c.min.result c.pieces.rest.now)) in (
       prefix ++ piece,
       split ∙ (ap (λ l. prefix ++ l) whole ∙ sym (append_assoc prefix piece rest)),
       λ h m r. subst (HasRead c.feed-progress.new.self h) (append_assoc m prefix piece)
