@@ -1,8 +1,9 @@
 -- Characters that leave a lexer as it is: the tables of them, and that they do.
-use Rattle.std.proofs.Common.{◌≡◌, ℕ, suc, ◌+◌, ◌<◌, ◌≤◌, Bool, true, false, ◌&&◌, ◌||◌, not, ◌==◌, nat_lt, cond, Option, None, slice_index_or, List, [], ◌∷◌, ◌++◌, length, take, inl, refl, sym, ap, subst, ◌∙◌, append_assoc, arith}
+use Rattle.std.proofs.Common.{◌≡◌, ℕ, ◌<◌, ◌≤◌, Bool, true, false, ◌&&◌, ◌||◌, not, ◌==◌, nat_lt, Option, None, slice_index_or, List, [], ◌∷◌, ◌++◌, length, take, inl, refl, sym, ap, subst, ◌∙◌, append_assoc, arith}
 use Rattle.std.specs.List.{list_all, prefix_len}
 use Rattle.std.specs.Char.{is_ascii}
-use Rattle.std.proofs.lemmas.Bool.Decides.{nat_tests}
+use Rattle.std.proofs.lemmas.Bool.{agree_below_at}
+use Rattle.std.specs.Bool.{beq}
 use Rattle.std.proofs.lemmas.List.Sums.{prefix_len-le-length}
 use Rattle.ucd_category.specs.GeneralCategory.{general_category}
 use Rattle.ucd_category.proofs.GeneralCategoryLemmas.{general_category_stepped}
@@ -17,7 +18,9 @@ use Rattle.es5_lexer.specs.Places.{next, is_dead}
 use Rattle.es5_lexer.specs.Residuals.{From, own, own_after, Steps, Leads}
 use Rattle.es5_lexer.specs.Letters.{with_letter, letter, HeardAt, Hears}
 use Rattle.es5_lexer.specs.Lexing.{HasRead}
-use Rattle.es5_lexer.specs.Runs.{Stays, is_in}
+use Rattle.text_stream.specs.Runs.{is_in}
+use Rattle.text_stream.proofs.RunLemmas.{run_all}
+use Rattle.es5_lexer.specs.Runs.{stays_in, stays}
 use Rattle.es5_lexer.specs.declared.tokens.Goal.{Goal}
 use Rattle.es5_lexer.specs.declared.tokens.Lexeme.{Lexeme}
 use Rattle.es5_lexer.specs.declared.letters.Letters.{Letters}
@@ -40,48 +43,78 @@ use Rattle.es5_lexer.proofs.TokenSteps.{token_step}
 use Rattle.es5_lexer.proofs.LetterLemmas.{no_name, goes_on}
 use Rattle.es5_lexer.proofs.LexerLemmas.{reads_on, line_change, block_change, token_change}
 
--- what is in the table passes the test
-in_table : (b t : Bool) → (not b || t) ≡ true → b ≡ true → t ≡ true
-in_table true t h e = h
-in_table false t h e = absurd cc
+-- the tables are their sets
 
-pub space_stays : (c : ℕ) → c < 128 → slice_index_or SPACES c false ≡ true → (is_line_end c ≡ false) × (is_space c ≡ true)
-unfolding class_of ucd_category
-space_stays c h e =
-    let both = in_table _ _ (Stepped-below general_category general_category_stepped (λ x category. not (slice_index_or SPACES x false) || (not (is_line_end_class (class_in category x)) && is_space_class (class_in category x))) 128 refl c h) e in
-    (not_true _ (and_left (not (is_line_end c)) (is_space c) both), and_right (not (is_line_end c)) (is_space c) both)
+beq_is : (a b : Bool) → beq a b ≡ true → a ≡ b
+beq_is true true e = refl
+beq_is false false e = refl
+beq_is true false e = absurd cc
+beq_is false true e = absurd cc
 
-pub name_stays : (c : ℕ) → c < 128 → slice_index_or NAME_PARTS c false ≡ true → is_part c ≡ true
+pub space_table : (c : ℕ) → c < 256 → is_in SPACES c ≡ (is_ascii c && (not (is_line_end c) && is_space c))
 unfolding class_of ucd_category
-name_stays c h e =
-    in_table _ _ (Stepped-below general_category general_category_stepped (λ x category. not (slice_index_or NAME_PARTS x false) || is_part_class (class_in category x)) 128 refl c h) e
+space_table c h =
+    beq_is _ _ (Stepped-below general_category general_category_stepped (λ x category. beq (slice_index_or SPACES x false) (is_ascii x && (not (is_line_end_class (class_in category x)) && is_space_class (class_in category x)))) 256 refl c h)
 
-pub line_stays : (c : ℕ) → c < 128 → slice_index_or LINE_COMMENT c false ≡ true → is_line_end c ≡ false
+pub name_table : (c : ℕ) → c < 256 → is_in NAME_PARTS c ≡ (is_ascii c && is_part c)
 unfolding class_of ucd_category
-line_stays c h e =
-    not_true _ (in_table _ _ (Stepped-below general_category general_category_stepped (λ x category. not (slice_index_or LINE_COMMENT x false) || not (is_line_end_class (class_in category x))) 128 refl c h) e)
+name_table c h =
+    beq_is _ _ (Stepped-below general_category general_category_stepped (λ x category. beq (slice_index_or NAME_PARTS x false) (is_ascii x && is_part_class (class_in category x))) 256 refl c h)
 
-pub block_stays : (c : ℕ) → c < 128 → slice_index_or BLOCK_COMMENT c false ≡ true → (is_line_end c ≡ false) × ((c == 42) ≡ false)
+pub line_table : (c : ℕ) → c < 256 → is_in LINE_COMMENT c ≡ (is_ascii c && not (is_line_end c))
 unfolding class_of ucd_category
-block_stays c h e =
-    let both = in_table _ _ (Stepped-below general_category general_category_stepped (λ x category. not (slice_index_or BLOCK_COMMENT x false) || (not (is_line_end_class (class_in category x)) && not (x == 42))) 128 refl c h) e in
-    (not_true _ (and_left (not (is_line_end c)) (not (c == 42)) both), not_true _ (and_right (not (is_line_end c)) (not (c == 42)) both))
+line_table c h =
+    beq_is _ _ (Stepped-below general_category general_category_stepped (λ x category. beq (slice_index_or LINE_COMMENT x false) (is_ascii x && not (is_line_end_class (class_in category x)))) 256 refl c h)
 
-pub double_stays : (c : ℕ) → c < 128 → slice_index_or DOUBLE_QUOTED c false ≡ true → is_plain Double c ≡ true
+pub block_table : (c : ℕ) → c < 256 → is_in BLOCK_COMMENT c ≡ (is_ascii c && (not (is_line_end c) && not (c == 42)))
 unfolding class_of ucd_category
-double_stays c h e =
-    in_table _ _ (Stepped-below general_category general_category_stepped (λ x category. not (slice_index_or DOUBLE_QUOTED x false) || not ((x == 34) || ((x == 92) || is_line_end_class (class_in category x)))) 128 refl c h) e
+block_table c h =
+    beq_is _ _ (Stepped-below general_category general_category_stepped (λ x category. beq (slice_index_or BLOCK_COMMENT x false) (is_ascii x && (not (is_line_end_class (class_in category x)) && not (x == 42)))) 256 refl c h)
 
-pub single_stays : (c : ℕ) → c < 128 → slice_index_or SINGLE_QUOTED c false ≡ true → is_plain Single c ≡ true
+pub double_table : (c : ℕ) → c < 256 → is_in DOUBLE_QUOTED c ≡ (is_ascii c && is_plain Double c)
 unfolding class_of ucd_category
-single_stays c h e =
-    in_table _ _ (Stepped-below general_category general_category_stepped (λ x category. not (slice_index_or SINGLE_QUOTED x false) || not ((x == 39) || ((x == 92) || is_line_end_class (class_in category x)))) 128 refl c h) e
+double_table c h =
+    beq_is _ _ (Stepped-below general_category general_category_stepped (λ x category. beq (slice_index_or DOUBLE_QUOTED x false) (is_ascii x && not ((x == 34) || ((x == 92) || is_line_end_class (class_in category x))))) 256 refl c h)
 
-pub nothing_stays : (c : ℕ) → c < 128 → slice_index_or NOTHING c false ≡ true → ⊥
+pub single_table : (c : ℕ) → c < 256 → is_in SINGLE_QUOTED c ≡ (is_ascii c && is_plain Single c)
 unfolding class_of ucd_category
-nothing_stays c h e =
-    let no : false ≡ true = in_table _ false (Stepped-below general_category general_category_stepped (λ x category. not (slice_index_or NOTHING x false) || false) 128 refl c h) e in
-    absurd cc
+single_table c h =
+    beq_is _ _ (Stepped-below general_category general_category_stepped (λ x category. beq (slice_index_or SINGLE_QUOTED x false) (is_ascii x && not ((x == 39) || ((x == 92) || is_line_end_class (class_in category x))))) 256 refl c h)
+
+and_false : (b : Bool) → (b && false) ≡ false
+and_false true = refl
+and_false false = refl
+
+pub no_table : (c : ℕ) → c < 256 → is_in NOTHING c ≡ (is_ascii c && false)
+no_table c h = agree_below_at (is_in NOTHING) (λ x. false) 256 c refl h ∙ sym (and_false (is_ascii c))
+
+pub name_full : (c : ℕ) (full : Bool) → c < 256 → full ≡ true → is_in NAME_PARTS c ≡ (is_ascii c && (full && is_part c))
+name_full c full h e = name_table c h ∙ ap (λ (b : Bool). is_ascii c && (b && is_part c)) (sym e)
+
+pub name_short : (c : ℕ) (full : Bool) → c < 256 → full ≡ false → is_in NOTHING c ≡ (is_ascii c && (full && is_part c))
+name_short c full h e = no_table c h ∙ ap (λ (b : Bool). is_ascii c && (b && is_part c)) (sym e)
+
+-- what it says of a character that it leaves a state as it is
+
+abbrev Stays : State → Bool → ℕ → Type 0
+Stays Start full c = (is_line_end c ≡ false) × (is_space c ≡ true)
+Stays LineComment full c = is_line_end c ≡ false
+Stays (BlockComment false) full c = (is_line_end c ≡ false) × ((c == 42) ≡ false)
+Stays (Token Name) full c = (full ≡ true) × (is_part c ≡ true)
+Stays (Token (Text q Chars)) full c = is_plain q c ≡ true
+Stays _ full c = ⊥
+
+it_stays : (s : State) (full : Bool) (c : ℕ) → stays_in s full c ≡ true → Stays s full c
+it_stays Start full c h =
+    (not_true _ (and_left (not (is_line_end c)) (is_space c) h), and_right (not (is_line_end c)) (is_space c) h)
+it_stays LineComment full c h = not_true _ h
+it_stays (BlockComment false) full c h = (
+  not_true _ (and_left (not (is_line_end c)) (not (c == 42)) h),
+  not_true _ (and_right (not (is_line_end c)) (not (c == 42)) h),
+)
+it_stays (Token Name) full c h = (and_left full (is_part c) h, and_right full (is_part c) h)
+it_stays (Token (Text q Chars)) full c h = h
+it_stays _ full c h = absurd cc
 
 -- a step that stays
 
@@ -200,35 +233,26 @@ run_asks v given full e (x ∷ p) (y ∷ q) w m i s h end tokens l =
 
 -- the run that a table finds
 
-prefix_all : (p : ℕ → Bool) (xs : List ℕ) → list_all p (take (prefix_len p xs) xs) ≡ true
-prefix_all p [] = refl
-prefix_all p (x ∷ xs) = by_test (p x) refl (prefix_all p xs)
-  where
-    by_test : (b : Bool) → p x ≡ b → list_all p (take (prefix_len p xs) xs) ≡ true → list_all p (take (cond b (1 + prefix_len p xs) 0) (x ∷ xs)) ≡ true
-    by_test false e h = refl
-    by_test true e h =
-        let one : 1 + prefix_len p xs ≡ suc (prefix_len p xs) = omega arith in
-        ap (λ (n : ℕ). list_all p (take n (x ∷ xs))) one ∙ and_both (p x) _ e h
+all_stay : (s : State) (full : Bool) (u : List ℕ) → list_all (stays s full) u ≡ true → AllStay s full u
+all_stay s full [] e = tt
+all_stay s full (c ∷ u) e =
+    let here = and_left (stays s full c) (list_all (stays s full) u) e in
+    (it_stays s full c (and_right (is_ascii c) (stays_in s full c) here), all_stay s full u (and_right (stays s full c) (list_all (stays s full) u) e))
 
-all_stay : (s : State) (full : Bool) (table : List Bool) → ((c : ℕ) → c < 128 → slice_index_or table c false ≡ true → Stays s full c) → (u : List ℕ) → list_all (is_in table) u ≡ true → AllStay s full u
-all_stay s full table h [] e = tt
-all_stay s full table h (c ∷ u) e =
-    let here = and_left (is_in table c) (list_all (is_in table) u) e in
-    let small = and_left (nat_lt c 128) (slice_index_or table c false) here in
-    (h c (grind (arith, nat_tests)) (and_right (nat_lt c 128) (slice_index_or table c false) here), all_stay s full table h u (and_right (is_in table c) (list_all (is_in table) u) e))
+all_ascii : (s : State) (full : Bool) (u : List ℕ) → list_all (stays s full) u ≡ true → list_all is_ascii u ≡ true
+all_ascii s full [] e = refl
+all_ascii s full (c ∷ u) e =
+    and_both (is_ascii c) _ (and_left (is_ascii c) (stays_in s full c) (and_left (stays s full c) (list_all (stays s full) u) e)) (all_ascii s full u (and_right (stays s full c) (list_all (stays s full) u) e))
 
-pub run_stays : (s : State) (full : Bool) (table : List Bool) (piece u : List ℕ) (n : ℕ) → ((c : ℕ) → c < 128 → slice_index_or table c false ≡ true → Stays s full c) → n ≡ prefix_len (is_in table) piece → u ≡ take n piece → AllStay s full u
-run_stays s full table piece u n h e i =
-    all_stay s full table h u (ap (list_all (is_in table)) (i ∙ ap (λ (k : ℕ). take k piece) e) ∙ prefix_all (is_in table) piece)
+run_is : (s : State) (full : Bool) (piece : List ℕ) (n : ℕ) → n ≡ prefix_len (stays s full) piece → list_all (stays s full) (take n piece) ≡ true
+run_is s full piece n e =
+    ap (λ (k : ℕ). list_all (stays s full) (take k piece)) e ∙ run_all (stays s full) piece
 
-all_ascii : (table : List Bool) (u : List ℕ) → list_all (is_in table) u ≡ true → list_all is_ascii u ≡ true
-all_ascii table [] e = refl
-all_ascii table (c ∷ u) e =
-    and_both (is_ascii c) _ (and_left (nat_lt c 128) _ (and_left (is_in table c) (list_all (is_in table) u) e)) (all_ascii table u (and_right (is_in table c) (list_all (is_in table) u) e))
+pub run_stays : (s : State) (full : Bool) (piece u : List ℕ) (n : ℕ) → n ≡ prefix_len (stays s full) piece → u ≡ take n piece → AllStay s full u
+run_stays s full piece u n e i = all_stay s full u (ap (list_all (stays s full)) i ∙ run_is s full piece n e)
 
-pub run_ascii : (table : List Bool) (piece : List ℕ) (n : ℕ) → n ≡ prefix_len (is_in table) piece → list_all is_ascii (take n piece) ≡ true
-run_ascii table piece n e =
-    ap (λ (k : ℕ). list_all is_ascii (take k piece)) e ∙ all_ascii table (take (prefix_len (is_in table) piece) piece) (prefix_all (is_in table) piece)
+pub run_ascii : (s : State) (full : Bool) (piece : List ℕ) (n : ℕ) → n ≡ prefix_len (stays s full) piece → list_all is_ascii (take n piece) ≡ true
+run_ascii s full piece n e = all_ascii s full (take n piece) (run_is s full piece n e)
 
-pub run_within : (table : List Bool) (piece : List ℕ) (n : ℕ) → n ≡ prefix_len (is_in table) piece → n ≤ length piece
-run_within table piece n e = let few = prefix_len-le-length (is_in table) piece in omega arith
+pub run_within : (s : State) (full : Bool) (piece : List ℕ) (n : ℕ) → n ≡ prefix_len (stays s full) piece → n ≤ length piece
+run_within s full piece n e = let few = prefix_len-le-length (stays s full) piece in omega (arith, few, e)

@@ -4,22 +4,24 @@
 //! then, and gives each token once the character behind it has come. It is of a fixed size: the state
 //! (`states`) has its place in a token, and of a name eleven letters are kept (`letters`).
 ghost use Rattle.std.specs.Prelude.{◌≡◌, ◌≤◌, ℕ, true, List, [], ◌∷◌, ◌++◌, length, take, IsTrue, ◌↔◌};
-ghost use Rattle.std.specs.List.{list_all};
+ghost use Rattle.std.specs.List.{list_all, prefix_len};
 ghost use Rattle.std.specs.Char.{is_ascii};
 ghost use Rattle.es5_lexer.specs.Texts.{Mark, mark, chars, Lexes, EndWithin};
 ghost use Rattle.es5_lexer.specs.Suits.{Suits};
 ghost use Rattle.es5_lexer.specs.Begins.{Begins};
 ghost use Rattle.es5_lexer.specs.Lexing.{HasRead};
+ghost use Rattle.es5_lexer.specs.Runs.{passes};
 ghost use Rattle.es5_lexer.specs.Letters.{token_of_kind, given_lexemes};
 ghost use Rattle.es5_lexer.specs.declared.tokens.Goal.{Goal};
 ghost use Rattle.es5_lexer.specs.declared.tokens.Lexeme.{Lexeme};
 
 use crate::letters::Letters;
 use crate::places::Kind;
-use crate::runs::{run_length, staying};
+use crate::runs::staying;
 use crate::states::{State, Step};
 use crate::tokens::{Goal, Lexeme, Token};
 use arrayvec::ArrayVec;
+use text_stream::run_length;
 
 /// Reads a text a character at a time.
 #[derive(Drop)]
@@ -87,9 +89,10 @@ impl Lexer {
     }
 
     /// How many bytes at the front of the piece are ASCII characters that leave the lexer as it is, under
-    /// whatever goals: most of white space, comments, strings and long names. They have been read then
-    /// without being fed.
+    /// whatever goals, up to the first that isn't one: most of white space, comments, strings and long
+    /// names. They have been read then without being fed.
     pub fn run_length(&self, piece: &[u8]) -> usize
+        ensures longest { result ≡ prefix_len (passes self.now) piece.now }
         ensures within { result ≤ length piece.now }
         ensures ascii { list_all is_ascii (take result piece.now) ≡ true }
         ensures reads { (m : List Mark) (given : List Lexeme) → HasRead self.now m given → (q : List Mark) → chars q ≡ take result piece.now → HasRead self.now (m ++ q) given }

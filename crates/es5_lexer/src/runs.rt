@@ -2,9 +2,9 @@
 //!
 //! Most characters of a script stand in names, white space, comments and strings, where a lexer stays in
 //! its state. A run of them is found by one look-up a byte, in a table for each of these states.
-ghost use Rattle.std.specs.Prelude.{◌≡◌, ◌<◌, ℕ, Bool, true, false, slice_index_or};
-ghost use Rattle.std.specs.List.{prefix_len};
-ghost use Rattle.es5_lexer.specs.Runs.{Stays, is_in};
+ghost use Rattle.std.specs.Prelude.{◌≡◌, ◌<◌, ℕ, Bool, false};
+ghost use Rattle.text_stream.specs.Runs.{is_in};
+ghost use Rattle.es5_lexer.specs.Runs.{stays};
 
 use crate::places::{Place, Quote, TextPlace};
 use crate::states::State;
@@ -15,8 +15,8 @@ const F: bool = false;
 
 /// The ASCII characters that leave the state as it is, where a name has all the letters that are kept of
 /// it or hasn't: white space between tokens, and what a comment, a string or a long name goes on with.
-pub(crate) fn staying(state: State, is_full: bool) -> &'static [bool; 128]
-    ensures { (c : ℕ) → c < 128 → slice_index_or result.now c false ≡ true → Stays state is_full c }
+pub(crate) fn staying(state: State, is_full: bool) -> &'static [bool; 256]
+    ensures { (c : ℕ) → c < 256 → is_in result.now c ≡ stays state is_full c }
 {
     match state {
         State::Start => &SPACES,
@@ -28,43 +28,50 @@ pub(crate) fn staying(state: State, is_full: bool) -> &'static [bool; 128]
 }
 
 /// In a comment of several lines, behind a `*` or not.
-fn in_block(star: bool) -> &'static [bool; 128]
-    ensures { (full : Bool) (c : ℕ) → c < 128 → slice_index_or result.now c false ≡ true → Stays (State.BlockComment star) full c }
+fn in_block(star: bool) -> &'static [bool; 256]
+    ensures { (full : Bool) (c : ℕ) → c < 256 → is_in result.now c ≡ stays (State.BlockComment star) full c }
 {
     if star { &NOTHING } else { &BLOCK_COMMENT }
 }
 
 /// In a token.
-fn in_token(place: Place, is_full: bool) -> &'static [bool; 128]
-    ensures { (c : ℕ) → c < 128 → slice_index_or result.now c false ≡ true → Stays (State.Token place) is_full c }
+fn in_token(place: Place, is_full: bool) -> &'static [bool; 256]
+    ensures { (c : ℕ) → c < 256 → is_in result.now c ≡ stays (State.Token place) is_full c }
 {
     match place {
         Place::Name => in_name(is_full),
         Place::Text(quote, place) => in_text(quote, place),
-        _ => &NOTHING,
+        Place::Escape(_, _) => &NOTHING,
+        Place::Mark(_) => &NOTHING,
+        Place::Number(_) => &NOTHING,
+        Place::Pattern(_) => &NOTHING,
+        Place::Dead => &NOTHING,
     }
 }
 
 /// In a name.
-fn in_name(is_full: bool) -> &'static [bool; 128]
-    ensures { (c : ℕ) → c < 128 → slice_index_or result.now c false ≡ true → Stays (State.Token Place.Name) is_full c }
+fn in_name(is_full: bool) -> &'static [bool; 256]
+    ensures { (c : ℕ) → c < 256 → is_in result.now c ≡ stays (State.Token Place.Name) is_full c }
 {
     if is_full { &NAME_PARTS } else { &NOTHING }
 }
 
 /// In a string.
-fn in_text(quote: Quote, place: TextPlace) -> &'static [bool; 128]
-    ensures { (full : Bool) (c : ℕ) → c < 128 → slice_index_or result.now c false ≡ true → Stays (State.Token (Place.Text quote place)) full c }
+fn in_text(quote: Quote, place: TextPlace) -> &'static [bool; 256]
+    ensures { (full : Bool) (c : ℕ) → c < 256 → is_in result.now c ≡ stays (State.Token (Place.Text quote place)) full c }
 {
     match place {
         TextPlace::Chars => quoted(quote),
-        _ => &NOTHING,
+        TextPlace::TextEscape => &NOTHING,
+        TextPlace::Cr => &NOTHING,
+        TextPlace::Hex(_) => &NOTHING,
+        TextPlace::End => &NOTHING,
     }
 }
 
 /// Behind a whole character of a string.
-fn quoted(quote: Quote) -> &'static [bool; 128]
-    ensures { (full : Bool) (c : ℕ) → c < 128 → slice_index_or result.now c false ≡ true → Stays (State.Token (Place.Text quote TextPlace.Chars)) full c }
+fn quoted(quote: Quote) -> &'static [bool; 256]
+    ensures { (full : Bool) (c : ℕ) → c < 256 → is_in result.now c ≡ stays (State.Token (Place.Text quote TextPlace.Chars)) full c }
 {
     match quote {
         Quote::Double => &DOUBLE_QUOTED,
@@ -72,70 +79,84 @@ fn quoted(quote: Quote) -> &'static [bool; 128]
     }
 }
 
-/// How many bytes at the front of the piece are ASCII and in the table.
-pub(crate) fn run_length(table: &[bool; 128], piece: &[u8]) -> usize
-    ensures { result ≡ prefix_len (is_in table.now) piece.now }
-{
-    piece.iter().take_while(|b| is_in(table, **b)).count()
-}
-
-/// Whether the byte is ASCII and in the table.
-fn is_in(table: &[bool; 128], b: u8) -> bool
-    ensures { result ≡ is_in table.now b }
-{
-    b.is_ascii() && table[b as usize]
-}
-
 /// White space that ends no line.
-static SPACES: [bool; 128] = [
+static SPACES: [bool; 256] = [
     F, F, F, F, F, F, F, F, F, T, F, T, T, F, F, F, F, F, F, F, F, F, F, F, F, F, F, F, F, F, F, F,
     T, F, F, F, F, F, F, F, F, F, F, F, F, F, F, F, F, F, F, F, F, F, F, F, F, F, F, F, F, F, F, F,
+    F, F, F, F, F, F, F, F, F, F, F, F, F, F, F, F, F, F, F, F, F, F, F, F, F, F, F, F, F, F, F, F,
+    F, F, F, F, F, F, F, F, F, F, F, F, F, F, F, F, F, F, F, F, F, F, F, F, F, F, F, F, F, F, F, F,
+    F, F, F, F, F, F, F, F, F, F, F, F, F, F, F, F, F, F, F, F, F, F, F, F, F, F, F, F, F, F, F, F,
+    F, F, F, F, F, F, F, F, F, F, F, F, F, F, F, F, F, F, F, F, F, F, F, F, F, F, F, F, F, F, F, F,
     F, F, F, F, F, F, F, F, F, F, F, F, F, F, F, F, F, F, F, F, F, F, F, F, F, F, F, F, F, F, F, F,
     F, F, F, F, F, F, F, F, F, F, F, F, F, F, F, F, F, F, F, F, F, F, F, F, F, F, F, F, F, F, F, F,
 ];
 
 /// What goes on with a name.
-static NAME_PARTS: [bool; 128] = [
+static NAME_PARTS: [bool; 256] = [
     F, F, F, F, F, F, F, F, F, F, F, F, F, F, F, F, F, F, F, F, F, F, F, F, F, F, F, F, F, F, F, F,
     F, F, F, F, T, F, F, F, F, F, F, F, F, F, F, F, T, T, T, T, T, T, T, T, T, T, F, F, F, F, F, F,
     F, T, T, T, T, T, T, T, T, T, T, T, T, T, T, T, T, T, T, T, T, T, T, T, T, T, T, F, F, F, F, T,
     F, T, T, T, T, T, T, T, T, T, T, T, T, T, T, T, T, T, T, T, T, T, T, T, T, T, T, F, F, F, F, F,
+    F, F, F, F, F, F, F, F, F, F, F, F, F, F, F, F, F, F, F, F, F, F, F, F, F, F, F, F, F, F, F, F,
+    F, F, F, F, F, F, F, F, F, F, F, F, F, F, F, F, F, F, F, F, F, F, F, F, F, F, F, F, F, F, F, F,
+    F, F, F, F, F, F, F, F, F, F, F, F, F, F, F, F, F, F, F, F, F, F, F, F, F, F, F, F, F, F, F, F,
+    F, F, F, F, F, F, F, F, F, F, F, F, F, F, F, F, F, F, F, F, F, F, F, F, F, F, F, F, F, F, F, F,
 ];
 
 /// What goes on with a comment of one line.
-static LINE_COMMENT: [bool; 128] = [
+static LINE_COMMENT: [bool; 256] = [
     T, T, T, T, T, T, T, T, T, T, F, T, T, F, T, T, T, T, T, T, T, T, T, T, T, T, T, T, T, T, T, T,
     T, T, T, T, T, T, T, T, T, T, T, T, T, T, T, T, T, T, T, T, T, T, T, T, T, T, T, T, T, T, T, T,
     T, T, T, T, T, T, T, T, T, T, T, T, T, T, T, T, T, T, T, T, T, T, T, T, T, T, T, T, T, T, T, T,
     T, T, T, T, T, T, T, T, T, T, T, T, T, T, T, T, T, T, T, T, T, T, T, T, T, T, T, T, T, T, T, T,
+    F, F, F, F, F, F, F, F, F, F, F, F, F, F, F, F, F, F, F, F, F, F, F, F, F, F, F, F, F, F, F, F,
+    F, F, F, F, F, F, F, F, F, F, F, F, F, F, F, F, F, F, F, F, F, F, F, F, F, F, F, F, F, F, F, F,
+    F, F, F, F, F, F, F, F, F, F, F, F, F, F, F, F, F, F, F, F, F, F, F, F, F, F, F, F, F, F, F, F,
+    F, F, F, F, F, F, F, F, F, F, F, F, F, F, F, F, F, F, F, F, F, F, F, F, F, F, F, F, F, F, F, F,
 ];
 
 /// What goes on with a comment of several lines, and neither ends a line nor may begin its end.
-static BLOCK_COMMENT: [bool; 128] = [
+static BLOCK_COMMENT: [bool; 256] = [
     T, T, T, T, T, T, T, T, T, T, F, T, T, F, T, T, T, T, T, T, T, T, T, T, T, T, T, T, T, T, T, T,
     T, T, T, T, T, T, T, T, T, T, F, T, T, T, T, T, T, T, T, T, T, T, T, T, T, T, T, T, T, T, T, T,
     T, T, T, T, T, T, T, T, T, T, T, T, T, T, T, T, T, T, T, T, T, T, T, T, T, T, T, T, T, T, T, T,
     T, T, T, T, T, T, T, T, T, T, T, T, T, T, T, T, T, T, T, T, T, T, T, T, T, T, T, T, T, T, T, T,
+    F, F, F, F, F, F, F, F, F, F, F, F, F, F, F, F, F, F, F, F, F, F, F, F, F, F, F, F, F, F, F, F,
+    F, F, F, F, F, F, F, F, F, F, F, F, F, F, F, F, F, F, F, F, F, F, F, F, F, F, F, F, F, F, F, F,
+    F, F, F, F, F, F, F, F, F, F, F, F, F, F, F, F, F, F, F, F, F, F, F, F, F, F, F, F, F, F, F, F,
+    F, F, F, F, F, F, F, F, F, F, F, F, F, F, F, F, F, F, F, F, F, F, F, F, F, F, F, F, F, F, F, F,
 ];
 
 /// What stands for itself in a string in double quotes.
-static DOUBLE_QUOTED: [bool; 128] = [
+static DOUBLE_QUOTED: [bool; 256] = [
     T, T, T, T, T, T, T, T, T, T, F, T, T, F, T, T, T, T, T, T, T, T, T, T, T, T, T, T, T, T, T, T,
     T, T, F, T, T, T, T, T, T, T, T, T, T, T, T, T, T, T, T, T, T, T, T, T, T, T, T, T, T, T, T, T,
     T, T, T, T, T, T, T, T, T, T, T, T, T, T, T, T, T, T, T, T, T, T, T, T, T, T, T, T, F, T, T, T,
     T, T, T, T, T, T, T, T, T, T, T, T, T, T, T, T, T, T, T, T, T, T, T, T, T, T, T, T, T, T, T, T,
+    F, F, F, F, F, F, F, F, F, F, F, F, F, F, F, F, F, F, F, F, F, F, F, F, F, F, F, F, F, F, F, F,
+    F, F, F, F, F, F, F, F, F, F, F, F, F, F, F, F, F, F, F, F, F, F, F, F, F, F, F, F, F, F, F, F,
+    F, F, F, F, F, F, F, F, F, F, F, F, F, F, F, F, F, F, F, F, F, F, F, F, F, F, F, F, F, F, F, F,
+    F, F, F, F, F, F, F, F, F, F, F, F, F, F, F, F, F, F, F, F, F, F, F, F, F, F, F, F, F, F, F, F,
 ];
 
 /// The same in single quotes.
-static SINGLE_QUOTED: [bool; 128] = [
+static SINGLE_QUOTED: [bool; 256] = [
     T, T, T, T, T, T, T, T, T, T, F, T, T, F, T, T, T, T, T, T, T, T, T, T, T, T, T, T, T, T, T, T,
     T, T, T, T, T, T, T, F, T, T, T, T, T, T, T, T, T, T, T, T, T, T, T, T, T, T, T, T, T, T, T, T,
     T, T, T, T, T, T, T, T, T, T, T, T, T, T, T, T, T, T, T, T, T, T, T, T, T, T, T, T, F, T, T, T,
     T, T, T, T, T, T, T, T, T, T, T, T, T, T, T, T, T, T, T, T, T, T, T, T, T, T, T, T, T, T, T, T,
+    F, F, F, F, F, F, F, F, F, F, F, F, F, F, F, F, F, F, F, F, F, F, F, F, F, F, F, F, F, F, F, F,
+    F, F, F, F, F, F, F, F, F, F, F, F, F, F, F, F, F, F, F, F, F, F, F, F, F, F, F, F, F, F, F, F,
+    F, F, F, F, F, F, F, F, F, F, F, F, F, F, F, F, F, F, F, F, F, F, F, F, F, F, F, F, F, F, F, F,
+    F, F, F, F, F, F, F, F, F, F, F, F, F, F, F, F, F, F, F, F, F, F, F, F, F, F, F, F, F, F, F, F,
 ];
 
 /// Where each character counts.
-static NOTHING: [bool; 128] = [
+static NOTHING: [bool; 256] = [
+    F, F, F, F, F, F, F, F, F, F, F, F, F, F, F, F, F, F, F, F, F, F, F, F, F, F, F, F, F, F, F, F,
+    F, F, F, F, F, F, F, F, F, F, F, F, F, F, F, F, F, F, F, F, F, F, F, F, F, F, F, F, F, F, F, F,
+    F, F, F, F, F, F, F, F, F, F, F, F, F, F, F, F, F, F, F, F, F, F, F, F, F, F, F, F, F, F, F, F,
+    F, F, F, F, F, F, F, F, F, F, F, F, F, F, F, F, F, F, F, F, F, F, F, F, F, F, F, F, F, F, F, F,
     F, F, F, F, F, F, F, F, F, F, F, F, F, F, F, F, F, F, F, F, F, F, F, F, F, F, F, F, F, F, F, F,
     F, F, F, F, F, F, F, F, F, F, F, F, F, F, F, F, F, F, F, F, F, F, F, F, F, F, F, F, F, F, F, F,
     F, F, F, F, F, F, F, F, F, F, F, F, F, F, F, F, F, F, F, F, F, F, F, F, F, F, F, F, F, F, F, F,

@@ -53,12 +53,6 @@ dead_reads test bytes more dead h = record {
   all = λ alive. absurd (cc (dead, alive));
 }
 
--- a text as its first byte and the others, as a pattern gives them
-pub first_and_others : (text : List ℕ) → 1 ≤ length text → text ≡ get_or text 0 0 ∷ take (length text - 1) (drop 1 text)
-first_and_others [] some = absurd (omega arith)
-first_and_others (b ∷ text) some =
-    ap (λ t. b ∷ t) (sym (take_all (length (b ∷ text) - 1) text (omega arith)))
-
 -- where nothing is left after the first of them
 pub first_alone : (n : ℕ) (text : List ℕ) → length (drop n text) < 1 → text ≡ take n text
 first_alone n text few = sym (take-append-drop n text) ∙ ap (λ t. take n text ++ t) (none (drop n text) few) ∙ append-nil (take n text)

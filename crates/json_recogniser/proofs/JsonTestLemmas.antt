@@ -1,6 +1,7 @@
 -- JSON tests: what is read, what is dead, and what is told at the end.
-use Rattle.std.proofs.Common.{◌≡◌, ℕ, suc, ◌<◌, Bool, true, false, List, [], ◌∷◌, ◌++◌, length, slice_index, get_or, take, drop, ◌-◌, ◌≤◌, take_all, Option, None, Some, option_map, refl, sym, ap, ◌∙◌, inl, inr, append_assoc, append-nil, arith}
-use Rattle.std.proofs.lemmas.Bool.{cases_Bool}
+use Rattle.std.proofs.Common.{◌≡◌, ℕ, Bool, true, false, List, [], ◌∷◌, ◌++◌, Option, None, Some, option_map, refl, sym, ap, ◌∙◌, inl, inr, append_assoc, append-nil}
+use Rattle.std.specs.List.{list_all}
+use Rattle.std.proofs.lemmas.Bool.{and_parts, cases_Bool}
 use Rattle.text_stream.specs.Decoding.{characters_of}
 use Rattle.text_stream.specs.Decoder.{PassesAscii, ahead, HasRead as DecoderHasRead}
 use Rattle.json_recogniser.specs.declared.values.Container.{Container}
@@ -11,11 +12,11 @@ use Rattle.json_recogniser.specs.Grammar.{IsJson}
 use Rattle.json_recogniser.specs.Reading.{behind_spaces, behind_value}
 use Rattle.json_recogniser.specs.Residuals.{residual, is_json, is_nothing, is_dead_state, through, after_residual}
 use Rattle.json_recogniser.specs.Machines.{comes}
-use Rattle.json_recogniser.specs.Runs.{run_test}
+use Rattle.json_recogniser.specs.Runs.{stays}
 use Rattle.json_recogniser.specs.JsonTest.{IsNever, is_dead, Reads, HasRead}
 use Rattle.json_recogniser.proofs.Soundness.{recognised}
 use Rattle.json_recogniser.proofs.Completeness.{complete}
-use Rattle.json_recogniser.proofs.RunLemmas.{stays, run_ascii}
+use Rattle.json_recogniser.proofs.RunLemmas.{stay, run_ascii}
 
 -- ---- the test of a whole text
 
@@ -82,7 +83,7 @@ told test bytes ending result is ends h =
 
 -- ---- bytes
 
-pub byte_passed : (test : JsonTest) (bytes : List ℕ) (b : ℕ) → PassesAscii test.decoder → run_test test.machine.state b ≡ true
+pub byte_passed : (test : JsonTest) (bytes : List ℕ) (b : ℕ) → PassesAscii test.decoder → stays test.machine.state b ≡ true
     → HasRead test bytes → HasRead test (bytes ++ b ∷ [])
 byte_passed test bytes b passes is h = record {
   dead = λ dead. never_more bytes (b ∷ []) (h.dead dead);
@@ -92,18 +93,18 @@ byte_passed test bytes b passes is h = record {
         given = reads.given ++ b ∷ [];
         decoder = passes bytes reads.given b (run_ascii test.machine.state b is) reads.decoder;
         machine = λ text.
-            sym (stays test.machine.state _ b text is) ∙ reads.machine (b ∷ text)
+            sym (stay test.machine.state _ b text is) ∙ reads.machine (b ∷ text)
             ∙ ap is_json (sym (append_assoc reads.given (b ∷ []) text));
       };
 }
 
-pub run_passed : (test : JsonTest) (bytes run : List ℕ) → PassesAscii test.decoder
-    → ((k : ℕ) → k < length run → run_test test.machine.state (slice_index run k) ≡ true)
+pub run_passed : (test : JsonTest) (bytes run : List ℕ) → PassesAscii test.decoder → list_all (stays test.machine.state) run ≡ true
     → HasRead test bytes → HasRead test (bytes ++ run)
-run_passed test bytes [] passes each h = rw (append-nil bytes) h
-run_passed test bytes (b ∷ run) passes each h =
-    let one = byte_passed test bytes b passes (each 0 (omega arith)) h in
-    let more = run_passed test (bytes ++ b ∷ []) run passes (λ k below. each (suc k) (omega arith)) one in
+run_passed test bytes [] passes all h = rw (append-nil bytes) h
+run_passed test bytes (b ∷ run) passes all h =
+    let parts = and_parts (stays test.machine.state b) (list_all (stays test.machine.state) run) all in
+    let one = byte_passed test bytes b passes parts.0 h in
+    let more = run_passed test (bytes ++ b ∷ []) run passes parts.1 one in
     rw (append_assoc bytes (b ∷ []) run) at more
 
 pub read_on : (old new : JsonTest) (bytes given : List ℕ) (b : ℕ)
@@ -115,9 +116,3 @@ read_on old new bytes given b decodes goes reads = record {
   decoder = decodes bytes reads.given reads.decoder;
   machine = λ text. goes text ∙ reads.machine (given ++ text) ∙ ap is_json (sym (append_assoc reads.given given text));
 }
-
--- a text as its first byte and the others, as a pattern gives them
-pub first_and_others : (text : List ℕ) → 1 ≤ length text → text ≡ get_or text 0 0 ∷ take (length text - 1) (drop 1 text)
-first_and_others [] some = absurd (omega arith)
-first_and_others (b ∷ text) some =
-    ap (λ t. b ∷ t) (sym (take_all (length (b ∷ text) - 1) text (omega arith)))

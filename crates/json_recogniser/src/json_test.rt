@@ -5,15 +5,16 @@
 //!
 //! **Why one call looks ahead.** [`JsonTest::run_length`] says how many of the next bytes change nothing, so that `feed` passes
 //! them without a step each.
-ghost use Rattle.std.specs.Prelude.{◌≡◌, ◌≤◌, ◌↔◌, ◌∷◌, ◌++◌, [], ℕ, List, IsTrue, true, length, take};
-ghost use Rattle.text_stream.specs.Decoder.{CanDecode};
+ghost use Rattle.std.specs.Prelude.{◌≡◌, ◌≤◌, ◌↔◌, ◌&&◌, not, nat_lt, ◌∷◌, ◌++◌, [], ℕ, List, IsTrue, true, length, take};
+ghost use Rattle.std.specs.List.{prefix_len};
+ghost use Rattle.text_stream.specs.Decoder.{CanDecode, is_pending};
 ghost use Rattle.text_stream.specs.Decoding.{characters_of};
 ghost use Rattle.json_recogniser.specs.Grammar.{IsJson};
 
 use crate::machine::Machine;
-use crate::runs::run_length;
+use crate::runs::staying;
 use crate::states::State;
-use text_stream::Decoder;
+use text_stream::{Decoder, run_length};
 
 /// Reads bytes in whatever pieces they come, and tells whether they are a JSON text of at most 1,024 levels. It has a fixed
 /// size: one mark for each bracket that is open.
@@ -25,7 +26,7 @@ pub struct JsonTest {
 }
 
 impl JsonTest {
-    ghost use Rattle.json_recogniser.specs.JsonTest.{HasRead, Reads, is_dead};
+    ghost use Rattle.json_recogniser.specs.JsonTest.{HasRead, Reads, is_dead, passes};
 
     /// A test that has read nothing.
     pub fn new() -> JsonTest
@@ -54,16 +55,18 @@ impl JsonTest {
         }
     }
 
-    /// How many of the next bytes leave the test as it is, as in a string; those behind them may too.
+    /// How many of the next bytes are ASCII characters that leave the test as it is, as in a string, up to the first that isn't
+    /// one.
     #[inline]
     pub fn run_length(&self, piece: &[u8]) -> usize
+        ensures longest { result ≡ prefix_len (passes self.now) piece.now }
         ensures within { result ≤ length piece.now }
         ensures reads { (bytes : List ℕ) → HasRead self.now bytes → HasRead self.now (bytes ++ take result piece.now) }
     {
         if self.decoder.is_pending() {
             0
         } else {
-            run_length(self.machine.state(), piece)
+            run_length(staying(self.machine.state()), piece)
         }
     }
 
@@ -88,11 +91,18 @@ impl JsonTest {
     fn feed_byte(&mut self, b: u8)
         ensures { (bytes : List ℕ) → Reads self.old bytes → Reads self.new (bytes ++ b ∷ []) }
     {
-        if b < 128 && !self.decoder.is_pending() {
+        if self.is_character(b) {
             self.machine.take(b as char);
         } else {
             let given = self.decoder.feed_byte(b);
             self.machine.take_all(given.as_slice());
         }
+    }
+
+    /// Whether the byte is a character by itself.
+    fn is_character(&self, b: u8) -> bool
+        ensures { result ≡ (nat_lt b 128 && not (is_pending self.now.decoder)) }
+    {
+        b < 128 && !self.decoder.is_pending()
     }
 }

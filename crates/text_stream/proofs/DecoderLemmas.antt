@@ -9,7 +9,7 @@ use Rattle.text_stream.specs.Decoding.{further_bytes, characters_behind, charact
 use Rattle.text_stream.specs.declared.decoder.Stage.{Stage}
 use Rattle.text_stream.specs.declared.decoder.Stage.TheVariants.{Front, Within, Finished}
 use Rattle.text_stream.specs.declared.decoder.Decoder.{Decoder}
-use Rattle.text_stream.specs.Decoder.{HasRead, PassesAscii, GivesAllButThree, ahead_at}
+use Rattle.text_stream.specs.Decoder.{HasRead, PassesAscii, GivesAllButThree, ahead_at, pending_at, is_pending}
 use Rattle.text_stream.specs.DecoderStages.{most_pending}
 use Rattle.text_stream.proofs.DecodingLemmas.{characters_behind-first}
 
@@ -195,6 +195,17 @@ passes_ascii decoder within none bytes given b ascii h = record {
       ∙ ap (λ p. (given ++ b ∷ []) ++ characters_behind 0 (p ++ more)) (sym none)
       ∙ ap (λ s. (given ++ b ∷ []) ++ ahead_at s (decoder.pending.items ++ more)) (sym within);
 }
+
+pub settled_passes : (decoder : Decoder) → is_pending decoder ≡ false → PassesAscii decoder
+settled_passes decoder settled = by_parts decoder.stage decoder.pending.items refl refl settled where
+  by_parts : (stage : Stage) (items : List ℕ) → decoder.stage ≡ stage → decoder.pending.items ≡ items → pending_at stage items ≡ false → PassesAscii decoder
+  by_parts Within [] within none is = passes_ascii decoder within none
+  by_parts Within (b ∷ items) within none is =
+      let some : (length (b ∷ items) == 0) ≡ false = grind (arith, nat_tests) in
+      let lie : not (length (b ∷ items) == 0) ≡ true = ap not some in
+      absurd (cc)
+  by_parts Front items within none is = absurd (cc)
+  by_parts Finished items within none is = absurd (cc)
 
 pub no_items : (items : List ℕ) (empty : Bool) → empty ≡ (length items == 0) → not empty ≡ false → items ≡ []
 no_items [] empty is some = refl

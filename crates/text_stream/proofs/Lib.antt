@@ -1,3 +1,4 @@
 pub mod ClassLemmas
 mod DecodingLemmas
-mod DecoderLemmas
+pub mod DecoderLemmas
+pub mod RunLemmas

@@ -1,5 +1,5 @@
 -- Decoders: what one knows of the bytes that were read and of the characters that were given.
-use Rattle.std.specs.Prelude.{◌≡◌, ◌≢◌, ◌⊎◌, ℕ, ◌<◌, ◌≤◌, List, [], ◌∷◌, ◌++◌, length}
+use Rattle.std.specs.Prelude.{◌≡◌, ◌≢◌, ◌⊎◌, ◌==◌, Bool, true, not, ℕ, ◌<◌, ◌≤◌, List, [], ◌∷◌, ◌++◌, length}
 use Rattle.text_stream.specs.declared.decoder.Stage.{Stage}
 use Rattle.text_stream.specs.declared.decoder.Stage.TheVariants.{Front, Within, Finished}
 use Rattle.text_stream.specs.declared.decoder.Decoder.{Decoder}
@@ -23,6 +23,14 @@ ahead decoder more = ahead_at decoder.stage (decoder.pending.items ++ more)
 pub record HasRead (decoder : Decoder) (bytes given : List ℕ) : Type 0 where
   pub can : CanDecode decoder
   pub gives : (more : List ℕ) → characters_of (bytes ++ more) ≡ given ++ ahead decoder more
+
+-- some bytes are pending, or the text hasn't begun
+abbrev pub pending_at : Stage → List ℕ → Bool
+pending_at Within bytes = not (length bytes == 0)
+pending_at stage bytes = true
+
+abbrev pub is_pending : Decoder → Bool
+is_pending decoder = pending_at decoder.stage decoder.pending.items
 
 -- a byte below 128 is its character
 abbrev pub PassesAscii : Decoder → Type 0

@@ -3,3 +3,4 @@ pub mod Decoding
 pub mod Lending
 pub mod DecoderStages
 pub mod Decoder
+pub mod Runs

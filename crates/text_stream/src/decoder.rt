@@ -35,7 +35,7 @@ pub struct Decoder {
 }
 
 impl Decoder {
-    ghost use Rattle.text_stream.specs.Decoder.{CanDecode, HasRead, PassesAscii};
+    ghost use Rattle.text_stream.specs.Decoder.{CanDecode, HasRead, PassesAscii, is_pending};
 
     /// A decoder that has read nothing.
     pub fn new() -> Decoder
@@ -90,7 +90,8 @@ impl Decoder {
     /// Whether some bytes are pending, or the text hasn't begun. Where it is false, a byte below 128 is its character.
     #[inline]
     pub fn is_pending(&self) -> bool
-        ensures { result ≡ false → PassesAscii self.now }
+        ensures value { result ≡ is_pending self.now }
+        ensures passes { result ≡ false → PassesAscii self.now }
     {
         match self.stage {
             Stage::Within => !self.pending.is_empty(),

@@ -10,8 +10,10 @@ mod classes;
 mod decoder;
 mod decoding;
 mod laws;
+mod runs;
 
 pub use classes::{CharClass, class_of};
 pub use decoder::Decoder;
 pub use decoding::{NoMemory, TextRoom, decode_slice};
 pub use laws::{all_but_three_bytes_are_given, classes_are_sets, text_reads_as_written};
+pub use runs::run_length;

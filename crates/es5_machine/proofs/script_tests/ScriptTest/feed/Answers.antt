@@ -1,6 +1,7 @@
 use Rattle.std.proofs.Common.{◌≡◌, ◌++◌, ◌∷◌, [], ◌-◌, ◌<◌, true, false, take, drop, length, get_or, ℕ, List, subst, sym, ap, ◌∙◌, append_assoc, take-append-drop}
 use Rattle.es5_machine.specs.ScriptTests.{HasRead}
-use Rattle.es5_machine.proofs.ScriptTestLemmas.{has_read, alive_reads, dead_reads, first_and_others, first_alone}
+use Rattle.es5_machine.proofs.ScriptTestLemmas.{has_read, alive_reads, dead_reads, first_alone}
+use Rattle.text_stream.proofs.RunLemmas.{first_and_others}
 use Rattle.es5_machine.proofs.script_tests.ScriptTest.feed.Goals as goal
 
 pub bytes-preserved : goal.bytes-preserved

@@ -7,6 +7,6 @@ returns-else-is_pending-clause-reads c m reads =
     let run = take c.run_length.result c.args.piece.now in
     record {
       text = reads.text ++ run;
-      decoder = passes c.args.self.now.decoder m reads.text run (c.is_pending.ensures c.if-is_pending.false) c.run_length.ensures.ascii reads.decoder;
+      decoder = passes c.args.self.now.decoder m reads.text run (c.is_pending.ensures.passes c.if-is_pending.false) c.run_length.ensures.ascii reads.decoder;
       reader = c.run_length.ensures.reads reads.text reads.reader;
     }

@@ -1,6 +1,7 @@
 use Rattle.std.proofs.Common.{◌≡◌, ◌++◌, ◌∷◌, [], ◌-◌, false, take, drop, length, get_or, sym, ap, ◌∙◌, append_assoc, take-append-drop}
 use Rattle.json_recogniser.specs.JsonTest.{is_dead}
-use Rattle.json_recogniser.proofs.JsonTestLemmas.{has_read, first_and_others}
+use Rattle.text_stream.proofs.RunLemmas.{first_and_others}
+use Rattle.json_recogniser.proofs.JsonTestLemmas.{has_read}
 use Rattle.json_recogniser.proofs.json_test.JsonTest.feed.Goals as goal
 
 pub bytes-preserved : goal.bytes-preserved
