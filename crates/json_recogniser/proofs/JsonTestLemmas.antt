@@ -1,9 +1,9 @@
 -- JSON tests: what is read, what is dead, and what is told at the end.
-use Rattle.std.proofs.Common.{◌≡◌, ℕ, Bool, true, false, List, [], ◌∷◌, ◌++◌, Option, None, Some, option_map, refl, sym, ap, ◌∙◌, inl, inr, append_assoc, append-nil}
+use Rattle.std.proofs.Common.{◌≡◌, ◌<◌, ℕ, length, get_or, take, arith, Bool, true, false, List, [], ◌∷◌, ◌++◌, Option, None, Some, option_map, refl, sym, ap, ◌∙◌, inl, inr, append_assoc, append-nil}
 use Rattle.std.specs.List.{list_all}
 use Rattle.std.proofs.lemmas.Bool.{and_parts, cases_Bool}
 use Rattle.text_stream.specs.Decoding.{characters_of}
-use Rattle.text_stream.specs.Decoder.{PassesAscii, ahead, HasRead as DecoderHasRead}
+use Rattle.text_stream.specs.Decoder.{PassesAscii, ReadsAs, ahead, HasRead as DecoderHasRead}
 use Rattle.json_recogniser.specs.declared.values.Container.{Container}
 use Rattle.json_recogniser.specs.declared.states.State.{State}
 use Rattle.json_recogniser.specs.declared.states.State.TheVariants as state
@@ -116,3 +116,18 @@ read_on old new bytes given b decodes goes reads = record {
   decoder = decodes bytes reads.given reads.decoder;
   machine = λ text. goes text ∙ reads.machine (given ++ text) ∙ ap is_json (sym (append_assoc reads.given given text));
 }
+
+-- some bytes read at once
+pub sequence_read : (old new : JsonTest) (bytes sequence : List ℕ) (c : ℕ) → new.decoder ≡ old.decoder → ReadsAs old.decoder sequence c
+    → ((text : List ℕ) → comes new.machine text ≡ comes old.machine (c ∷ text))
+    → Reads old bytes → Reads new (bytes ++ sequence)
+sequence_read old new bytes sequence c same reads_as goes reads = record {
+  given = reads.given ++ c ∷ [];
+  decoder = rw same (reads_as bytes reads.given reads.decoder);
+  machine = λ text. goes text ∙ reads.machine (c ∷ text) ∙ ap is_json (sym (append_assoc reads.given (c ∷ []) text));
+}
+
+-- the first byte alone
+pub first_alone : (piece : List ℕ) → 0 < length piece → get_or piece 0 0 ∷ [] ≡ take 1 piece
+first_alone [] some = absurd (omega arith)
+first_alone (b ∷ piece) some = refl

@@ -5,7 +5,7 @@
 //!
 //! **Why one call looks ahead.** [`JsonTest::run_length`] says how many of the next bytes change nothing, so that `feed` passes
 //! them without a step each.
-ghost use Rattle.std.specs.Prelude.{◌≡◌, ◌≤◌, ◌↔◌, ◌&&◌, not, nat_lt, ◌∷◌, ◌++◌, [], ℕ, List, IsTrue, true, length, take};
+ghost use Rattle.std.specs.Prelude.{◌≡◌, ◌<◌, ◌≤◌, ◌↔◌, ◌&&◌, not, nat_lt, ◌∷◌, ◌++◌, [], ℕ, List, IsTrue, true, length, take};
 ghost use Rattle.std.specs.List.{prefix_len};
 ghost use Rattle.text_stream.specs.Decoder.{CanDecode, is_pending};
 ghost use Rattle.text_stream.specs.Decoding.{characters_of};
@@ -45,13 +45,11 @@ impl JsonTest {
     {
         let mut rest = piece;
         'bytes: while !self.is_dead() {
-            match rest.split_at(self.run_length(rest)).1 {
-                [] => return,
-                [b, others @ ..] => {
-                    self.feed_byte(*b);
-                    rest = others;
-                }
+            let left = rest.split_at(self.run_length(rest)).1;
+            if left.is_empty() {
+                return;
             }
+            rest = left.split_at(self.feed_first(left)).1;
         }
     }
 
@@ -85,6 +83,41 @@ impl JsonTest {
         ensures never { (bytes more : List ℕ) → HasRead self.now bytes → IsTrue result → ¬ IsJson (characters_of (bytes ++ more)) }
     {
         matches!(self.machine.state(), State::Dead)
+    }
+
+    /// Reads the byte at the front of the piece, or the whole sequence there, and says how many bytes these are.
+    fn feed_first(&mut self, piece: &[u8]) -> usize
+        requires { 0 < length piece.now }
+        ensures some { 0 < result }
+        ensures within { result ≤ length piece.now }
+        ensures reads { (bytes : List ℕ) → Reads self.old bytes → Reads self.new (bytes ++ take result piece.now) }
+    {
+        if piece[0].is_ascii() {
+            self.feed_byte(piece[0]);
+            1
+        } else {
+            self.feed_sequence(piece)
+        }
+    }
+
+    /// Reads the whole sequence at the front of the piece, or the first byte where there is none.
+    #[inline(never)]
+    fn feed_sequence(&mut self, piece: &[u8]) -> usize
+        requires { 0 < length piece.now }
+        ensures some { 0 < result }
+        ensures within { result ≤ length piece.now }
+        ensures reads { (bytes : List ℕ) → Reads self.old bytes → Reads self.new (bytes ++ take result piece.now) }
+    {
+        match self.decoder.whole_character(piece) {
+            Some((c, size)) => {
+                self.machine.take(c);
+                size
+            }
+            None => {
+                self.feed_byte(piece[0]);
+                1
+            }
+        }
     }
 
     /// Reads a byte.
