@@ -1,5 +1,5 @@
 -- What a test that is hopeless says of the bytes that it has read.
-use Rattle.std.proofs.Common.{◌≡◌, ℕ, ◌<◌, false, true, List, [], ◌∷◌, ◌++◌, ap, subst, refl, sym, ◌∙◌, append_assoc, append-nil, arith, length, take, drop, get_or, ◌-◌, ◌≤◌, take_all, take-append-drop}
+use Rattle.std.proofs.Common.{◌≡◌, ℕ, ◌<◌, false, true, List, [], ◌∷◌, ◌++◌, ap, subst, refl, sym, ◌∙◌, append_assoc, append-nil, arith, length, take, drop, take-append-drop}
 use Rattle.std.proofs.lemmas.Bool.Decides.{nat_tests}
 use Rattle.std.specs.List.{list_all}
 use Rattle.std.specs.Char.{is_ascii}
