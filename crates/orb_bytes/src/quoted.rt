@@ -90,7 +90,7 @@ mod tests {
     fn strings_are_written(rt: HostRuntime) -> Result<(), Fail> {
         let mut text = Vec::new(rt.alloc());
         append_quoted(&mut text, b"a \"b\\")?;
-        assert!(rt; text.as_slice() == b"\"a \\\"b\\\\\"");
+        assert_eq!(rt; text.as_slice(), b"\"a \\\"b\\\\\"".as_slice());
         Ok(())
     }
 }

@@ -97,4 +97,20 @@ mod tests {
             assert!(rt; trim_tab_or_space(text) == by_tab_or_space, "{text:?}");
         }
     }
+
+    #[test]
+    fn leading_bytes_of_a_class_are_passed(rt: HostRuntime) {
+        let rows: [(&[u8], &[u8], &[u8]); 5] = [
+            (b"\0", b"\0\0webm\0", b"webm\0"),
+            (b"\0", b" webm", b" webm"),
+            (b"\t ", b"                    \t                  a ", b"a "),
+            (b" ", b"                ", b""),
+            (b"", b"a", b"a"),
+        ];
+        for (class, text, rest) in rows {
+            assert_eq!(rt; trim_start(text, class), rest, "{text:?}");
+        }
+        assert_eq!(rt; trim_whitespace_start(b"\x0c\r\n \x0b"), b"\x0b".as_slice());
+        assert_eq!(rt; trim_http_ws_start(b"\r\n \x0c"), b"\x0c".as_slice());
+    }
 }
