@@ -1,5 +1,6 @@
--- Content-Range (RFC 9110 14.4), as a profile: the unit `bytes` and a range that is given, in
--- numbers of 1 to 19 digits.
+-- Content-Range (RFC 9110 14.4), as a profile: the unit `bytes` and a range that is given, in numbers of 1 to 19 digits.
+--
+--   Content-Range = range-unit SP first-pos "-" last-pos "/" ( complete-length / "*" )
 use Rattle.std.specs.Prelude.{◌≡◌, ℕ, ◌<◌, ◌≤◌, Bool, true, ◌&&◌, ◌==◌, nat_lt, nat_le, List, ◌∷◌, ◌++◌, codes, bytes_eq, IsTrue, IfSome, Option, Some, None, if◌then◌else◌}
 use Rattle.std.specs.List.{before_first, after_first}
 use Rattle.orb_bytes.specs.Ascii.{space, hyphen_minus, solidus}
@@ -9,14 +10,14 @@ use Rattle.orb_bytes.specs.Decimal.{decimal_of}
 use Rattle.orb_bytes.specs.Fields.{same_name}
 use Rattle.media_state.specs.declared.ranges.ContentRange.{ContentRange}
 
--- the parts of a value as they are written
+-- the parts of a value as they are written: range-unit, first-pos, last-pos, and complete-length or `*`
 pub record Written : Type 0 where
   pub unit : List ℕ
   pub first : List ℕ
   pub last : List ℕ
   pub complete : List ℕ
 
--- `unit first-last/complete`
+-- the text of the parts
 abbrev pub range_text : Written → List ℕ
 range_text w = w.unit ++ (space ∷ (w.first ++ (hyphen_minus ∷ (w.last ++ (solidus ∷ w.complete)))))
 
