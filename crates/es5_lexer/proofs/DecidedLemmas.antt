@@ -261,12 +261,11 @@ decided_from IsProgram p (c ∷ u) s read f given =
         of_marks [] is from = absurd (cc is)
         of_marks (m ∷ w) is from =
             let same : m.character ≡ c = cc in
-            let others : chars w ≡ u = cc in
-            (
+            let others : chars w ≡ u = cc in (
               w,
               others,
               change s (own s read) f m.reading (p.goal given) c w h.end h.tokens (fits IsProgram p given h.tokens h.program)
-              (own_from s read f (mark m.reading c ∷ w) h.end h.tokens (subst (λ (d : ℕ). From s read f (mark m.reading d ∷ w) h.end h.tokens) same from)),
+                  (own_from s read f (mark m.reading c ∷ w) h.end h.tokens (subst (λ (d : ℕ). From s read f (mark m.reading d ∷ w) h.end h.tokens) same from)),
             )
 
     ended : (k : Option Kind) → List Mark → List Cut
