@@ -1,5 +1,5 @@
 -- What a decider has read of a response.
-use Rattle.std.specs.Prelude.{◌≡◌, ℕ, ◌-◌, Bool, true, false, nat_lt, if◌then◌else◌, List, [], length, Option}
+use Rattle.std.specs.Prelude.{◌≡◌, ℕ, ◌-◌, Bool, false, nat_lt, if◌then◌else◌, List, [], length, Option}
 use Rattle.media_state.specs.declared.states.MediaState.{MediaState}
 use Rattle.json_recogniser.specs.JsonTest.{HasRead as JsonHasRead}
 use Rattle.es5_machine.specs.ScriptTests.{HasRead as ScriptHasRead, is_dead}

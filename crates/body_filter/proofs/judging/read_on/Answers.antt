@@ -1,4 +1,4 @@
-use Rattle.std.proofs.Common.{◌≡◌, ◌++◌, ap, subst, ◌∙◌}
+use Rattle.std.proofs.Common.{◌++◌, ap, subst, ◌∙◌}
 use Rattle.response_rules.specs.Settled.{is_sent}
 use Rattle.body_filter.specs.Judged.{Decides, judged}
 use Rattle.body_filter.proofs.judging.read_on.Goals as goal

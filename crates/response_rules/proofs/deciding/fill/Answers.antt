@@ -1,5 +1,4 @@
-use Rattle.std.proofs.Common.{◌≡◌, ◌++◌, length, take, sym, ap, ◌∙◌, arith, take-append-drop}
-use Rattle.std.proofs.lemmas.Bool.Decides.{nat_tests}
+use Rattle.std.proofs.Common.{◌++◌, ap, ◌∙◌}
 use Rattle.response_rules.proofs.ReadLemmas.{filled, take_least}
 use Rattle.response_rules.proofs.deciding.fill.Goals as goal
 

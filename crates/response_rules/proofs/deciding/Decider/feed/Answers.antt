@@ -1,5 +1,5 @@
-use Rattle.std.proofs.Common.{◌≡◌, ◌++◌, length, length-append, nat_lt, true, false, sym, ap, subst, ◌∙◌}
-use Rattle.response_rules.specs.Reads.{HasRead, HasCounted, TextStands}
+use Rattle.std.proofs.Common.{◌++◌, length, sym, ◌∙◌}
+use Rattle.response_rules.specs.Reads.{TextStands}
 use Rattle.response_rules.proofs.ReadLemmas.{full_by, counted_on, not_over_before}
 use Rattle.response_rules.proofs.HopelessLemmas.{hopeless-longer}
 use Rattle.response_rules.proofs.deciding.Decider.feed.Goals as goal

@@ -1,7 +1,6 @@
-use Rattle.std.proofs.Common.{◌≡◌, ◌++◌, ◌==◌, length, true, false, None, refl, sym, ap, ◌∙◌}
+use Rattle.std.proofs.Common.{◌++◌, sym, ap, ◌∙◌}
 use Rattle.std.specs.Option.{option_or}
-use Rattle.response_rules.specs.Settled.{is_full, settled_rule, rule_in_window}
-use Rattle.response_rules.specs.Tables.{window_of}
+use Rattle.response_rules.specs.Settled.{rule_in_window}
 use Rattle.response_rules.proofs.ReadLemmas.{full_by, window-on, settled_on-filled, settled_on-short, text_by-full, text_by-short, text_begins, text_waits, window_whole}
 use Rattle.response_rules.proofs.deciding.Decider.fill.Goals as goal
 use Rattle.response_rules.proofs.deciding.Decider.fill.Goals.{else-is_none-via-then-is_none+else-not-over, else-is_none-via-else-is_none}

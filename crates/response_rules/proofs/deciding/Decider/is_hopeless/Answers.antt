@@ -1,9 +1,5 @@
-use Rattle.std.proofs.Common.{◌≡◌, ℕ, not, ◌&&◌, ◌||◌, List, refl, sym, ap, ◌∙◌}
-use Rattle.es5_machine.specs.ScriptTests.{is_dead}
-use Rattle.response_rules.specs.Rules.{is_allowing}
-use Rattle.response_rules.specs.Heads.{Head}
-use Rattle.response_rules.specs.Settled.{is_some_rule, is_blocked, is_hopeless}
-use Rattle.response_rules.specs.Reads.{HasRead, script_of}
+use Rattle.std.proofs.Common.{refl, sym, ◌∙◌}
+use Rattle.response_rules.specs.Settled.{is_blocked, is_hopeless}
 use Rattle.response_rules.proofs.HopelessLemmas.{hopeless-blocks}
 use Rattle.response_rules.proofs.deciding.Decider.is_hopeless.Goals as goal
 

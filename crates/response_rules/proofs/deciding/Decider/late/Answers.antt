@@ -1,4 +1,4 @@
-use Rattle.std.proofs.Common.{◌≡◌, ◌++◌, [], true, false, sym, ap, subst, ◌∙◌}
+use Rattle.std.proofs.Common.{◌++◌, sym, ap, subst, ◌∙◌}
 use Rattle.response_rules.specs.Reads.{TextHasRead, text_of}
 use Rattle.response_rules.proofs.TextLemmas.{over_is, text_is}
 use Rattle.response_rules.proofs.HopelessLemmas.{is_text}

@@ -1,4 +1,4 @@
-use Rattle.std.proofs.Common.{◌≡◌, false, refl, sym, ◌∙◌}
+use Rattle.std.proofs.Common.{refl, sym, ◌∙◌}
 use Rattle.response_rules.proofs.ReadLemmas.{stands_full, text_by-full, text_on, text_off}
 use Rattle.response_rules.proofs.deciding.Decider.read_on.Goals as goal
 use Rattle.response_rules.proofs.deciding.Decider.read_on.Goals.{else-is_none-via-then-is_none+else-not-over, else-is_none-via-else-is_none}
