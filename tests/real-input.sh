@@ -1,23 +1,37 @@
 #!/bin/sh
-# Compares what `explain` and `filter` give of a real browser's traffic with what is owed of it. The
-# recordings stand beside the clone, in `../shared/data`; where they don't, there is nothing to compare.
+# Compares what `explain` and `filter` give of real and made input with what is owed of it: what a real browser got, and
+# 300 short texts, each a script or none. The input stands beside the clone, in `../shared/data`; where it doesn't,
+# there is nothing to compare.
 top=$(cd "$(dirname "$0")/.." && pwd) || exit 70
 data=$top/../shared/data
 if [ ! -d "$data" ]; then
     echo "real input: skipped, there is no $data"
     exit 0
 fi
-wrote=$(mktemp) || exit 70
-trap 'rm -f "$wrote"' EXIT
+made=$(mktemp -d) || exit 70
+trap 'rm -rf "$made"' EXIT
 differ=0
-for word in explain filter; do
-    "$top/orb" "$word" <"$data/chromium-windows.rec" >"$wrote"
+
+# A word, a recording, and what is owed of it.
+compare() {
+    "$top/orb" "$1" <"$2" >"$made/wrote"
     status=$?
-    if [ "$status" = 0 ] && cmp "$wrote" "$data/chromium-windows.$word"; then
-        echo "real input: $word of chromium-windows.rec is as owed"
+    if [ "$status" = 0 ] && cmp "$made/wrote" "$3"; then
+        echo "real input: $1 of $(basename "$2") is as owed"
     else
-        echo "real input: $word of chromium-windows.rec DIFFERS (status $status)"
+        echo "real input: $1 of $(basename "$2") DIFFERS (status $status)"
         differ=1
     fi
+}
+
+for word in explain filter; do
+    compare $word "$data/chromium-windows.rec" "$data/chromium-windows.$word"
+    compare $word "$data/chromium-texts.rec" "$data/chromium-texts.$word"
+    compare $word "$data/made.rec" "$data/made.orb.$word"
 done
+if "$top/tests/scripts.py" "$data/scripts.jsonl" "$made/scripts.rec" "$made/scripts.explain"; then
+    compare explain "$made/scripts.rec" "$made/scripts.explain"
+else
+    differ=1
+fi
 exit "$differ"
