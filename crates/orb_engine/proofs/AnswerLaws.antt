@@ -40,12 +40,12 @@ pub one-exchanges : (s : Settings) (m : List ℕ) (a b : Recording) → IsRecord
 one-exchanges s m a b x y = (same_of s m a b x y).exchanges
 
 pub one-stop : (s : Settings) (m : List ℕ) (a b : Recording) → IsRecording s m a → IsRecording s m b → (ended : Bool)
-    → stop_of s a ended ≡ stop_of s b ended
+    → stop_of a ended ≡ stop_of b ended
 unfolding stop_of
 one-stop s m a b x y ended =
     let same = same_of s m a b x y in
-    ap (λ exchanges. stop_at s (table_after_all finite.empty exchanges) (length (spell_exchanges exchanges [])) ended a.tail) same.exchanges
-    ∙ same.tails.stop (table_after_all finite.empty b.exchanges) (length (spell_exchanges b.exchanges [])) ended
+    ap (λ exchanges. stop_at (length (spell_exchanges exchanges [])) ended a.tail) same.exchanges
+    ∙ same.tails.stop (length (spell_exchanges b.exchanges [])) ended
 
 pub one-output : (s : Settings) (m : List ℕ) (a b : Recording) → IsRecording s m a → IsRecording s m b → (ended : Bool)
     → output_of s a ended ≡ output_of s b ended
@@ -65,29 +65,29 @@ one-rules s m a b x y ended =
 
 -- ---- a refusal
 
-open_stop : (s : Settings) (table : States) (offset : ℕ) (t : Tail) → is_open t ≡ true → stop_at s table offset false t ≡ Open
-open_stop s table offset (cut.InRequestHead []) h = refl
-open_stop s table offset (cut.InRequestHead (b ∷ head)) h = refl
-open_stop s table offset (cut.InResponseHead r head) h = refl
-open_stop s table offset (cut.InBody g sent body) h = refl
-open_stop s table offset _ h = absurd (false≢true h)
+open_stop : (offset : ℕ) (t : Tail) → is_open t ≡ true → stop_at offset false t ≡ Open
+open_stop offset (cut.InRequestHead []) h = refl
+open_stop offset (cut.InRequestHead (b ∷ head)) h = refl
+open_stop offset (cut.InResponseHead r head) h = refl
+open_stop offset (cut.InBody g sent body) h = refl
+open_stop offset _ h = absurd (false≢true h)
 
-stop_open : (s : Settings) (table : States) (offset : ℕ) (t : Tail) → stop_at s table offset false t ≡ Open → is_open t ≡ true
-stop_open s table offset (cut.InRequestHead head) h = refl
-stop_open s table offset (cut.InResponseHead r head) h = refl
-stop_open s table offset (cut.InBody g sent body) h = refl
-stop_open s table offset _ h = absurd (cc)
+stop_open : (offset : ℕ) (t : Tail) → stop_at offset false t ≡ Open → is_open t ≡ true
+stop_open offset (cut.InRequestHead head) h = refl
+stop_open offset (cut.InResponseHead r head) h = refl
+stop_open offset (cut.InBody g sent body) h = refl
+stop_open offset _ h = absurd (cc)
 
-pub opens-stop : (s : Settings) (a : Recording) → (stop_of s a false ≡ Open) ↔ (is_open a.tail ≡ true)
+pub opens-stop : (a : Recording) → (stop_of a false ≡ Open) ↔ (is_open a.tail ≡ true)
 unfolding stop_of
-opens-stop s a = (
-  stop_open s (table_after_all finite.empty a.exchanges) (length (spell_exchanges a.exchanges [])) a.tail,
-  open_stop s (table_after_all finite.empty a.exchanges) (length (spell_exchanges a.exchanges [])) a.tail,
+opens-stop a = (
+  stop_open (length (spell_exchanges a.exchanges [])) a.tail,
+  open_stop (length (spell_exchanges a.exchanges [])) a.tail,
 )
 
 -- a tail that is not open is answered so whether or not the input has ended
 record IsShut (s : Settings) (t : Tail) : Type 0 where
-  stop : (table : States) (offset : ℕ) (ended : Bool) → stop_at s table offset ended t ≡ stop_at s table offset false t
+  stop : (offset : ℕ) (ended : Bool) → stop_at offset ended t ≡ stop_at offset false t
   written : (table : States) (before : ℕ) (ended : Bool) → written_tail s table before ended t ≡ written_tail s table before false t
   rules : (table : States) (ended : Bool) → rules_of_tail s table ended t ≡ rules_of_tail s table false t
 
@@ -96,7 +96,7 @@ shut s (cut.InRequestHead head) h = absurd (h refl)
 shut s (cut.InResponseHead r head) h = absurd (h refl)
 shut s (cut.InBody g sent body) h = absurd (h refl)
 shut s _ h = record {
-  stop = λ table offset ended. refl;
+  stop = λ offset ended. refl;
   written = λ table before ended. refl;
   rules = λ table ended. refl;
 }
@@ -126,18 +126,18 @@ unfolding with_more stop_of output_of rules_of
 with_more-answers s x a closed =
     let t = shut s a.tail closed in
     record {
-      stop = λ ended. t.stop (table_after_all finite.empty a.exchanges) (length (spell_exchanges a.exchanges [])) ended;
+      stop = λ ended. t.stop (length (spell_exchanges a.exchanges [])) ended;
       output = λ ended. ap (λ l. written_exchanges s finite.empty 0 a.exchanges ++ l) (t.written (table_after_all finite.empty a.exchanges) (length a.exchanges) ended);
       rules = λ ended. ap (λ l. rules_of_exchanges a.exchanges ++ l) (t.rules (table_after_all finite.empty a.exchanges) ended);
     }
 
-pub refusal-stands : (s : Settings) (m more : List ℕ) (a : Recording) → IsRecording s m a → (stop_of s a false ≡ Open → ⊥)
+pub refusal-stands : (s : Settings) (m more : List ℕ) (a : Recording) → IsRecording s m a → (stop_of a false ≡ Open → ⊥)
     → (b : Recording) × IsRecording s (m ++ more) b × IsAnsweredAs s a b
 refusal-stands s m more a h refused =
-    let closed : is_open a.tail ≡ true → ⊥ = λ o. refused ((opens-stop s a).1 o) in
+    let closed : is_open a.tail ≡ true → ⊥ = λ o. refused ((opens-stop a).1 o) in
     (with_more a more, with_more-is s m more a h closed, with_more-answers s more a closed)
 
-pub refusal-alone : (s : Settings) (m more : List ℕ) (a b : Recording) → IsRecording s m a → (stop_of s a false ≡ Open → ⊥)
+pub refusal-alone : (s : Settings) (m more : List ℕ) (a b : Recording) → IsRecording s m a → (stop_of a false ≡ Open → ⊥)
     → IsRecording s (m ++ more) b → IsAnsweredAs s a b
 refusal-alone s m more a b h refused y =
     let c = refusal-stands s m more a h refused in

@@ -69,9 +69,8 @@ pub begun-fills : (incoming : Incoming) (asked : Asked) (read : Decider × BodyF
     → (given ++ more) ++ gathered_by e'.writer ≡ (given ++ gathered_by e.writer) ++ written_so_far s.job y []
     → WriterReads e'.writer s y []
     → UnframerHasRead incoming.unframer read.1 [] [] → incoming.to_end ≡ is_to_end read.1 → incoming.id ≡ id_of asked.asks
-    → incoming.offset ≡ asked.offset
     → Fills incoming e' s m (given ++ more)
-begun-fills incoming asked read e e' s m given more q y kept is gave reads unframer to_end id offset =
+begun-fills incoming asked read e e' s m given more q y kept is gave reads unframer to_end id =
     let stands = subst (λ (g : BodyFrame). StandsAt incoming.unframer g [] []) q.frame_is unframer.stands in
     record {
       coming = begun asked read e s m given q;
@@ -88,7 +87,6 @@ begun-fills incoming asked read e e' s m given more q y kept is gave reads unfra
         media = kept.media ∙ q.whole.media;
         id = id ∙ ap id_of q.whole.asks;
         to_end = to_end ∙ ap is_to_end q.frame_is;
-        offset = offset ∙ q.whole.offset;
       };
     }
 

@@ -36,7 +36,7 @@ pub record HasOpenBody (incoming : Incoming) (e : Engine) (s : Settings) (m give
   pub coming : Coming
   pub spells : m ≡ spell_coming coming
   pub whole : cut.AreExchanges s map.empty coming.exchanges
-  pub sending : IsOpenBody s (table_of coming.exchanges) coming.heads coming.sent coming.body
+  pub sending : IsOpenBody (table_of coming.exchanges) coming.heads coming.sent coming.body
   pub gave : given ++ gathered_by e.writer ≡ coming_written s coming
   pub taken : e.progress.taken ≡ length m
   pub common : Common e s coming.exchanges given
@@ -50,7 +50,7 @@ open-body incoming e s m given r is =
       coming = record { exchanges = r.exchanges; heads = a.heads; sent = a.sent; body = a.body };
       spells = r.cut.spells ∙ ap (λ t. spell_exchanges r.exchanges (spell_tail t [])) a.is ∙ ap (λ x. spell_exchanges r.exchanges (spell_heads a.heads x)) (append-nil a.sent);
       whole = r.cut.exchanges;
-      sending = subst (λ (t : Tail). IsTail s (table_of r.exchanges) t) a.is r.cut.tail;
+      sending = subst (λ (t : Tail). IsTail (table_of r.exchanges) t) a.is r.cut.tail;
       gave = r.gave ∙ ap (λ t. output_of s (open_cut r.exchanges t) false) a.is ∙ output-body s r.exchanges a.heads a.sent a.body [];
       taken = r.taken;
       common = r.common;
@@ -92,7 +92,6 @@ body-got incoming u e e' s m given piece body used h same gets taken =
       media = same.media ∙ h.receives.media;
       id = h.receives.id;
       to_end = h.receives.to_end;
-      offset = h.receives.offset;
     }
 
 -- its content fits
@@ -154,7 +153,6 @@ body-bad incoming u e e' s m given piece at h same refuses =
             heads = h.sending.heads;
             front = refuses.bad.before;
             unfinished = refuses.bad.unfinished;
-            undecided = h.sending.undecided;
           };
           chunked = refuses.chunked;
           bad = λ g front. refuses.bad.bad g (subst (λ (x : List ℕ). IsFront c.heads.response.frame x g)

@@ -1,5 +1,5 @@
 -- The end of an exchange.
-use Rattle.std.proofs.Common.{◌≡◌, ℕ, cond, ◌+◌, Bool, true, false, List, [], ◌++◌, length, Option, None, Some, Result, Ok, Err, refl, ap, subst, ◌∙◌, arith}
+use Rattle.std.proofs.Common.{◌≡◌, ℕ, cond, ◌+◌, Bool, true, false, List, [], ◌++◌, length, Option, None, Some, refl, ap, subst, ◌∙◌, arith}
 use Rattle.std.specs.Prelude.{is_some}
 use Rattle.std.specs.FinMap as map
 use Rattle.orb_io.specs.Told.{IsPrefix}
@@ -8,7 +8,6 @@ use Rattle.media_state.specs.Table.{States, admitted}
 use Rattle.std.proofs.lemmas.Cmp.{nat_cmp_total, eq_by_cmp_equiv}
 use Rattle.media_state.specs.declared.states.MediaState.{MediaState}
 use Rattle.media_state.specs.declared.states.MediaState.TheVariants.{Initial}
-use Rattle.response_rules.specs.declared.rules.Rule.{Rule}
 use Rattle.orb_engine.specs.declared.settings.Settings.{Settings}
 use Rattle.orb_engine.specs.declared.progress.Counts.{Counts}
 use Rattle.std.proofs.lemmas.List.{append-nil}
@@ -20,11 +19,7 @@ use Rattle.media_state.specs.Table.{IsKept, stored}
 use Rattle.orb_engine.specs.Recording.{Exchange}
 use Rattle.orb_engine.specs.Outputs.{written_so_far, written_whole}
 use Rattle.orb_engine.specs.Counts.{rules_of_exchanges}
-use Rattle.orb_engine.specs.Reads.{Coming, IsTold, counts_of}
-use Rattle.orb_engine.specs.declared.engine.Engine.{Engine}
-use Rattle.orb_engine.specs.declared.outcome.EngineOutcome.{EngineOutcome}
-use Rattle.orb_engine.specs.declared.outcome.EngineOutcome.TheVariants as outcome
-use Rattle.orb_engine.specs.Closing.{Closes, ClosesDecided}
+use Rattle.orb_engine.specs.Reads.{IsTold, counts_of}
 use Rattle.orb_engine.proofs.CutLemmas.{count-sum, rules-length}
 
 -- the id is kept once it is admitted
@@ -57,27 +52,6 @@ told-more c s exchanges given pushed told = record {
   numbers = told.numbers;
   whole = IsPrefix-trans _ given (given ++ pushed) told.whole (IsPrefix-append given pushed);
 }
-
-pub some-of : (o : Option Rule) (r : Rule) → o ≡ Some r → is_some o ≡ true
-some-of o r is = ap is_some is
-
-pub the-rule : (o : Option Rule) → is_some o ≡ true → (r : Rule) × (o ≡ Some r)
-the-rule None is = absurd (cc is)
-the-rule (Some r) is = (r, refl)
-
--- the same answer, of an exchange that may be undecided
-pub as_closes : (r : Result (Unit {0}) EngineOutcome) (offset : ℕ) (e : Engine) (s : Settings) (c : Coming) (given : List ℕ)
-    → ClosesDecided r e s c given → Closes r offset e s c given
-as_closes (Ok done) offset e s c given closed = closed
-as_closes (Err outcome.WriteFault) offset e s c given falls = falls
-as_closes (Err outcome.Done) offset e s c given never = absurd never
-as_closes (Err (outcome.Bad kind at)) offset e s c given never = absurd never
-as_closes (Err (outcome.Cut at)) offset e s c given never = absurd never
-as_closes (Err (outcome.HeadLimit at)) offset e s c given never = absurd never
-as_closes (Err (outcome.MediaFull at)) offset e s c given never = absurd never
-as_closes (Err (outcome.NotBuilt at)) offset e s c given never = absurd never
-as_closes (Err outcome.Endless) offset e s c given never = absurd never
-as_closes (Err outcome.ReadFault) offset e s c given never = absurd never
 
 pub so_far-in-whole : (job : Job) (number : ℕ) (x : Response) (m : List ℕ) → IsPrefix (written_so_far job x m) (written_whole job number x m)
 so_far-in-whole job number x m =

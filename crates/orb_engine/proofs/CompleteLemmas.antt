@@ -1,9 +1,7 @@
 -- Where nothing fails, a run over a whole recording reads all of it and writes all that is written of it.
 use Rattle.std.proofs.Common.{◌≡◌, ℕ, ◌<◌, ◌≤◌, Bool, true, false, List, [], ◌∷◌, ◌++◌, length, Option, None, Some, refl, sym, ap, ◌∙◌, subst, arith}
-use Rattle.std.specs.FinMap as finite
 use Rattle.std.proofs.lemmas.List.{append-nil, length-append}
 use Rattle.orb_io.specs.Told.{Rose}
-use Rattle.media_state.specs.Table.{States}
 use Rattle.orb_engine.specs.declared.settings.Settings.{Settings}
 use Rattle.orb_engine.specs.declared.engine.Engine.{Engine}
 use Rattle.orb_engine.specs.declared.outcome.EngineOutcome.{EngineOutcome}
@@ -18,21 +16,21 @@ use Rattle.orb_engine.specs.Complete.{IsWholeRecording, IsAll, IsComplete}
 use Rattle.orb_engine.proofs.AnswerLaws.{one-stop, one-output, refusal-alone}
 
 -- no recording is done where more may come
-never_done : (s : Settings) (table : States) (offset : ℕ) (t : Tail) → stop_at s table offset false t ≡ ends.Done → ⊥
-never_done s table offset (cut.InRequestHead []) h = cc
-never_done s table offset (cut.InRequestHead (b ∷ head)) h = cc
-never_done s table offset _ h = cc
+never_done : (offset : ℕ) (t : Tail) → stop_at offset false t ≡ ends.Done → ⊥
+never_done offset (cut.InRequestHead []) h = cc
+never_done offset (cut.InRequestHead (b ∷ head)) h = cc
+never_done offset _ h = cc
 
-open_not_done : (s : Settings) (a : Recording) → stop_of s a false ≡ ends.Done → ⊥
+open_not_done : (a : Recording) → stop_of a false ≡ ends.Done → ⊥
 unfolding stop_of
-open_not_done s a h = never_done s (table_after_all finite.empty a.exchanges) (length (spell_exchanges a.exchanges [])) a.tail h
+open_not_done a h = never_done (length (spell_exchanges a.exchanges [])) a.tail h
 
 pub front_is_all : (s : Settings) (read rest : List ℕ) (r a : Recording) (ended : Bool)
     → IsWholeRecording s (read ++ rest) r → IsRecording s read a → (ended ≡ true → rest ≡ [])
-    → (stop_of s a ended ≡ ends.Open → ⊥) → IsAll s r a ended rest
+    → (stop_of a ended ≡ ends.Open → ⊥) → IsAll s r a ended rest
 front_is_all s read rest r a false whole first all closed =
     let same = refusal-alone s read rest a r first closed whole.cut in
-    absurd (open_not_done s a (sym (same.stop true) ∙ whole.done))
+    absurd (open_not_done a (sym (same.stop true) ∙ whole.done))
 front_is_all s read rest r a true whole first all closed =
     let none : rest ≡ [] = all refl in
     let same : read ++ rest ≡ read = ap (λ l. read ++ l) none ∙ append-nil read in

@@ -1,43 +1,38 @@
 -- A whole exchange that stands first in some bytes: it is the only one, and no tail stands there.
-use Rattle.std.proofs.Common.{◌≡◌, ℕ, true, false, List, [], ◌∷◌, ◌++◌, Some, None, inl, inr, refl, sym, ap, subst, ◌∙◌, append_assoc}
+use Rattle.std.proofs.Common.{◌≡◌, ℕ, true, false, List, [], ◌∷◌, ◌++◌, inl, inr, refl, sym, ap, subst, ◌∙◌, append_assoc}
 use Rattle.std.proofs.lemmas.Bool.{false≢true}
 use Rattle.std.proofs.lemmas.List.{append_cancel_left}
-use Rattle.std.proofs.lemmas.Option.{same_Some}
 use Rattle.orb_io.specs.Told.{IsPrefix}
 use Rattle.orb_io.proofs.ToldLemmas.{IsPrefix-all, IsPrefix-none}
 use Rattle.media_state.specs.Table.{States}
 use Rattle.response_rules.specs.declared.rules.Rule.{Rule}
-use Rattle.response_rules.specs.Tables.{window_rule_of}
+use Rattle.response_rules.specs.Tables.{rule_of}
 use Rattle.http_exchange.specs.Frames.{IsFront, IsWhole}
 use Rattle.http_exchange.proofs.UnframerLemmas.{one_front}
 use Rattle.orb_engine.specs.declared.settings.Settings.{Settings}
 use Rattle.orb_engine.specs.Heads.{Heads, judged_by, response_of}
 use Rattle.orb_engine.specs.Recording as cut
-use Rattle.orb_engine.specs.Recording.{Exchange, Tail, IsExchange, IsTail, IsOpenBody, IsBadBody, IsUndecided, spell_heads, spell_exchange, spell_tail, is_open}
+use Rattle.orb_engine.specs.Recording.{Exchange, Tail, IsExchange, IsTail, IsOpenBody, IsBadBody, spell_heads, spell_exchange, spell_tail, is_open}
 use Rattle.orb_engine.specs.Outputs.{written_so_far, written_whole, written_tail}
-use Rattle.orb_engine.proofs.BodyLaws.{one_goes_on, longer_front, within_stuck, text-rule, same_whole}
-use Rattle.orb_engine.proofs.OutputLaws.{written_so_far-grows, written_so_far-whole, written_so_far-undecided}
+use Rattle.orb_engine.proofs.BodyLaws.{one_goes_on, longer_front, within_stuck, same_whole}
+use Rattle.orb_engine.proofs.OutputLaws.{written_so_far-grows, written_so_far-whole}
 use Rattle.orb_engine.proofs.StartLaws.{Asked, Answered, IsStart, one_start, ask_of, answer_of, start_of_heads, start_of_tail, same_heads}
-use Rattle.orb_engine.proofs.TailLaws.{reached_not_sending, reached_not_bad, undecided_reached, item_not_undecided, moved, alone, same_tails}
+use Rattle.orb_engine.proofs.TailLaws.{whole_not_sending, whole_not_bad, moved, alone, same_tails}
 
 -- ---- an item and a tail
 
 not_item_by : (s : Settings) (table : States) (i : Exchange) (r : List ℕ) (u : Tail) (others : List ℕ)
-    → IsExchange s table i → IsTail s table u → (is_open u ≡ true → others ≡ [])
+    → IsExchange s table i → IsTail table u → (is_open u ≡ true → others ≡ [])
     → Asked i.heads.request (i.heads.response.bytes ++ (i.sent ++ r)) ≡ ask_of u others
     → Answered i.heads.response (i.sent ++ r) ≡ answer_of u others → ⊥
 not_item_by s table i r (cut.InBody k n c) others x y end a b =
     let h = i.heads in
     let p = same_heads h k _ _ (i.sent ++ r) (n ++ others) a b in
-    reached_not_sending s table h i.sent r n i.body c (inl x.whole) x.front (moved (λ j. IsOpenBody s table j n c) h k p.0 y) (p.1 ∙ alone n others (end refl))
+    whole_not_sending table h i.sent r n c x.whole (moved (λ j. IsOpenBody table j n c) h k p.0 y) (p.1 ∙ alone n others (end refl))
 not_item_by s table i r (cut.BadBody k n c d) others x y end a b =
     let h = i.heads in
     let p = same_heads h k _ _ (i.sent ++ r) (n ++ (d ∷ others)) a b in
-    reached_not_bad s table h i.sent r n others i.body c d (inl x.whole) x.front (moved (λ j. IsBadBody s table j n c d) h k p.0 y) p.1
-not_item_by s table i r (cut.Undecided k n c) others x y end a b =
-    let h = i.heads in
-    let p = same_heads h k _ _ (i.sent ++ r) (n ++ others) a b in
-    item_not_undecided s table h i.sent r n others i.body c i.rule x.front x.whole x.decided (moved (λ j. IsUndecided s table j n c) h k p.0 y) p.1
+    whole_not_bad table h i.sent r n others i.body c d x.whole x.front (moved (λ j. IsBadBody table j n c d) h k p.0 y) p.1
 not_item_by s table i r _ others x y end a b = absurd (cc)
 
 start_of_item : (s : Settings) (table : States) (i : Exchange) (r : List ℕ) → IsExchange s table i
@@ -45,11 +40,11 @@ start_of_item : (s : Settings) (table : States) (i : Exchange) (r : List ℕ) �
 start_of_item s table i r x = start_of_heads table i.heads (i.sent ++ r) x.heads
 
 pub item_not_tail : (s : Settings) (table : States) (i : Exchange) (r : List ℕ) (u : Tail) (others : List ℕ)
-    → IsExchange s table i → IsTail s table u → (is_open u ≡ true → others ≡ []) → spell_exchange i r ≡ spell_tail u others → ⊥
+    → IsExchange s table i → IsTail table u → (is_open u ≡ true → others ≡ []) → spell_exchange i r ≡ spell_tail u others → ⊥
 item_not_tail s table i r u others x y end e =
     let start = one_start table (spell_exchange i r) _ (ask_of u others) _ (answer_of u others)
     (start_of_item s table i r x)
-    (subst (λ l. IsStart table l (ask_of u others) (answer_of u others)) (sym e) (start_of_tail s table u others y end)) in
+    (subst (λ l. IsStart table l (ask_of u others) (answer_of u others)) (sym e) (start_of_tail table u others y end)) in
     not_item_by s table i r u others x y end start.0 start.1
 
 -- ---- two exchanges
@@ -70,10 +65,10 @@ same_items_by s table i r j q x y heads e =
     let whole : IsWhole f j.sent = subst (λ k. IsWhole k.response.frame j.sent) (sym heads) y.whole in
     let sent : i.sent ≡ j.sent = same_whole f i.sent r j.sent q i.body j.body x.whole whole x.front front e in
     let body : i.body ≡ j.body = one_front f i.sent i.body j.body x.front (subst (λ l. IsFront f l j.body) (sym sent) front) in
-    let rules : Some i.rule ≡ Some j.rule =
-    sym x.decided ∙ ap (λ k. window_rule_of (judged_by s table k) i.body) heads
-    ∙ ap (window_rule_of (judged_by s table j.heads)) body ∙ y.decided in (
-      item_by i j heads sent body (same_Some i.rule j.rule rules),
+    let rules : i.rule ≡ j.rule =
+    x.decided ∙ ap (λ k. rule_of (judged_by s table k) i.body) heads
+    ∙ ap (rule_of (judged_by s table j.heads)) body ∙ sym y.decided in (
+      item_by i j heads sent body rules,
       append_cancel_left i.sent r q (e ∙ ap (λ l. l ++ q) (sym sent)),
     )
 
@@ -101,11 +96,10 @@ spell_tail-append (cut.FullTable r) more x = append_assoc r.bytes more x
 spell_tail-append (cut.LongResponse r head) more x = simp append_assoc
 spell_tail-append (cut.BadResponse r head kind) more x = simp append_assoc
 spell_tail-append (cut.BadBody h m g b) more x = simp append_assoc
-spell_tail-append (cut.Undecided h m g) more x = simp append_assoc
 
 -- what goes on from a body that may go on, where its heads are the same
 grows_by_item : (s : Settings) (table : States) (h : Heads) (m g x : List ℕ) (i : Exchange) (r : List ℕ) (number : ℕ)
-    → IsOpenBody s table h m g → IsExchange s table i → h ≡ i.heads → m ++ x ≡ i.sent ++ r
+    → IsOpenBody table h m g → IsExchange s table i → h ≡ i.heads → m ++ x ≡ i.sent ++ r
     → IsPrefix (written_so_far s.job (response_of s table h) g) (written_whole s.job number (response_of s table i.heads) i.body)
 grows_by_item s table h m g x i r number sending item heads e =
     let f = h.response.frame in
@@ -118,7 +112,7 @@ grows_by_item s table h m g x i r number sending item heads e =
           λ c j. IsPrefix (written_so_far s.job (response_of s table h) g) (written_whole s.job number (response_of s table j) c) in
           subst (P i.body) heads (subst (λ c. P c h) (sym longer.1) (written_so_far-whole s.job number (response_of s table h) g longer.0))
       | inr k ↦
-          absurd (reached_not_sending s table h i.sent k.more m i.body g (inl whole) front sending (sym k.front))
+          absurd (whole_not_sending table h i.sent k.more m g whole sending (sym k.front))
     ]
 
 longer_written : (s : Settings) (table : States) (h k : Heads) (m more g c : List ℕ) → h ≡ k
@@ -130,45 +124,28 @@ longer_written s table h k m more g c heads x y =
     λ d j. IsPrefix (written_so_far s.job (response_of s table h) g) (written_so_far s.job (response_of s table j) d) in
     subst (P c) heads (subst (λ d. P d h) (sym longer.1) (written_so_far-grows s.job (response_of s table h) g longer.0))
 
-undecided_rule : (s : Settings) (table : States) (h : Heads) (m g : List ℕ) → IsUndecided s table h m g
-    → window_rule_of (judged_by s table h) g ≡ None
-undecided_rule s table h m g x =
-    elim (x.undecided) [ inl text ↦ text-rule (judged_by s table h) g text | inr whole ↦ whole.1 ]
-
 grows_by_tail : (s : Settings) (table : States) (h : Heads) (m g x : List ℕ) (u : Tail) (others : List ℕ) (number : ℕ)
-    → IsOpenBody s table h m g → IsTail s table u → (is_open u ≡ true → others ≡ [])
+    → IsOpenBody table h m g → IsTail table u → (is_open u ≡ true → others ≡ [])
     → Asked h.request (h.response.bytes ++ (m ++ x)) ≡ ask_of u others → Answered h.response (m ++ x) ≡ answer_of u others
     → IsPrefix (written_so_far s.job (response_of s table h) g) (written_tail s table number false u)
 grows_by_tail s table h m g x (cut.InBody k n c) others number sending y end a b =
     let f = h.response.frame in
     let p = same_heads h k _ _ (m ++ x) (n ++ others) a b in
-    let moves : IsOpenBody s table h n c = moved (λ j. IsOpenBody s table j n c) h k p.0 y in
+    let moves : IsOpenBody table h n c = moved (λ j. IsOpenBody table j n c) h k p.0 y in
     longer_written s table h k m x g c p.0 sending.front
     (subst (λ l. IsFront f l c) (sym (p.1 ∙ alone n others (end refl))) moves.front)
 grows_by_tail s table h m g x (cut.BadBody k n c d) others number sending y end a b =
     let f = h.response.frame in
     let p = same_heads h k _ _ (m ++ x) (n ++ (d ∷ others)) a b in
-    let moves : IsBadBody s table h n c d = moved (λ j. IsBadBody s table j n c d) h k p.0 y in
+    let moves : IsBadBody table h n c d = moved (λ j. IsBadBody table j n c d) h k p.0 y in
     let w = within_stuck f m x n others g d moves.bad sending.front p.1 in
     longer_written s table h k m w.0 g c p.0 sending.front (subst (λ l. IsFront f l c) w.1 moves.sending.front)
-grows_by_tail s table h m g x (cut.Undecided k n c) others number sending y end a b =
-    let f = h.response.frame in
-    let p = same_heads h k _ _ (m ++ x) (n ++ others) a b in
-    let moves : IsUndecided s table h n c = moved (λ j. IsUndecided s table j n c) h k p.0 y in
-    elim (one_goes_on m x n others p.1) [
-      | inl w ↦
-          let longer = longer_front f m w.more g c sending.front (subst (λ l. IsFront f l c) w.front moves.front) in
-          subst (λ l. IsPrefix l []) (sym (written_so_far-undecided s.job (response_of s table h) g longer.0
-          (ap (window_rule_of (judged_by s table h)) (sym longer.1) ∙ undecided_rule s table h n c moves))) (IsPrefix-none [])
-      | inr w ↦
-          absurd (reached_not_sending s table h n w.more m c g (undecided_reached s table h n c moves) moves.front sending (sym w.front))
-    ]
 grows_by_tail s table h m g x _ others number sending y end a b = absurd (cc)
 
 -- what is written of a tail begins what is written of what stands there in longer bytes
 
 pub tail_grows : (s : Settings) (table : States) (t : Tail) (more x : List ℕ) (u : Tail) (others : List ℕ) (number count : ℕ)
-    → IsTail s table t → (is_open t ≡ true → more ≡ []) → IsTail s table u → (is_open u ≡ true → others ≡ [])
+    → IsTail table t → (is_open t ≡ true → more ≡ []) → IsTail table u → (is_open u ≡ true → others ≡ [])
     → spell_tail t more ++ x ≡ spell_tail u others
     → IsPrefix (written_tail s table number false t) (written_tail s table count false u)
 tail_grows s table (cut.InBody h m g) more x u others number count sending last y end e =
@@ -177,7 +154,7 @@ tail_grows s table (cut.InBody h m g) more x u others number count sending last 
     let is : spell_heads h (m ++ (more ++ x)) ≡ spell_tail u others = sym (spell_tail-append (cut.InBody h m g) more x) ∙ e in
     let start = one_start table (spell_heads h (m ++ (more ++ x))) a (ask_of u others) c (answer_of u others)
     (start_of_heads table h (m ++ (more ++ x)) sending.heads)
-    (subst (λ l. IsStart table l (ask_of u others) (answer_of u others)) (sym is) (start_of_tail s table u others y end)) in
+    (subst (λ l. IsStart table l (ask_of u others) (answer_of u others)) (sym is) (start_of_tail table u others y end)) in
     grows_by_tail s table h m g (more ++ x) u others count sending y end start.0 start.1
 tail_grows s table (cut.BadBody h m g d) more x u others number count bad last y end e =
     let shut : is_open (cut.BadBody h m g d) ≡ true → more ++ x ≡ [] = λ o. absurd (false≢true o) in
@@ -192,10 +169,9 @@ tail_grows s table (cut.BadRequest head kind) more x u others number count t las
 tail_grows s table (cut.FullTable r) more x u others number count t last y end e = IsPrefix-none _
 tail_grows s table (cut.LongResponse r head) more x u others number count t last y end e = IsPrefix-none _
 tail_grows s table (cut.BadResponse r head kind) more x u others number count t last y end e = IsPrefix-none _
-tail_grows s table (cut.Undecided h m g) more x u others number count t last y end e = IsPrefix-none _
 
 pub item_grows : (s : Settings) (table : States) (t : Tail) (more x : List ℕ) (i : Exchange) (r : List ℕ) (number count : ℕ)
-    → IsTail s table t → (is_open t ≡ true → more ≡ []) → IsExchange s table i → spell_tail t more ++ x ≡ spell_exchange i r
+    → IsTail table t → (is_open t ≡ true → more ≡ []) → IsExchange s table i → spell_tail t more ++ x ≡ spell_exchange i r
     → IsPrefix (written_tail s table number false t) (written_whole s.job count (response_of s table i.heads) i.body)
 item_grows s table (cut.InBody h m g) more x i r number count sending last y e =
     let a = Asked h.request (h.response.bytes ++ (m ++ (more ++ x))) in
@@ -219,4 +195,3 @@ item_grows s table (cut.BadRequest head kind) more x i r number count t last y e
 item_grows s table (cut.FullTable q) more x i r number count t last y e = IsPrefix-none _
 item_grows s table (cut.LongResponse q head) more x i r number count t last y e = IsPrefix-none _
 item_grows s table (cut.BadResponse q head kind) more x i r number count t last y e = IsPrefix-none _
-item_grows s table (cut.Undecided h m g) more x i r number count t last y e = IsPrefix-none _

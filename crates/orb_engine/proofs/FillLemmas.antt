@@ -1,11 +1,8 @@
 -- What becomes of a body that has come.
-use Rattle.std.proofs.Common.{◌≡◌, ℕ, ◌+◌, ◌^◌, ◌<◌, ◌≤◌, Bool, false, List, [], ◌∷◌, ◌++◌, length, Some, Result, Ok, Err, refl, sym, ap, subst, ◌∙◌, inr, arith, lit<, append_assoc, length-append}
+use Rattle.std.proofs.Common.{◌≡◌, ℕ, ◌+◌, ◌^◌, ◌<◌, ◌≤◌, Bool, false, List, [], ◌∷◌, ◌++◌, length, Result, Ok, Err, refl, sym, ap, subst, ◌∙◌, arith, lit<, append_assoc, length-append}
 use Rattle.std.specs.FinMap as map
 use Rattle.std.proofs.lemmas.List.{append-nil}
 use Rattle.orb_io.specs.Told.{IsPrefix}
-use Rattle.response_rules.specs.declared.rules.Rule.{Rule}
-use Rattle.response_rules.specs.Tables.{window_rule_of}
-use Rattle.response_rules.specs.Settled.{is_in_text}
 use Rattle.http_exchange.specs.Head.{head_length}
 use Rattle.http_exchange.specs.Frames.{IsWhole}
 use Rattle.http_exchange.proofs.EndLemmas.{head_length-bounds}
@@ -18,16 +15,14 @@ use Rattle.orb_engine.specs.declared.engine.states.State.TheVariants as state
 use Rattle.orb_engine.specs.declared.outcome.EngineOutcome.{EngineOutcome}
 use Rattle.orb_engine.specs.declared.outcome.EngineOutcome.TheVariants as outcome
 use Rattle.http_exchange.specs.HeadTexts.{head_limit, IsOpenHead}
-use Rattle.orb_engine.specs.Heads.{Heads, response_of, judged_by}
+use Rattle.orb_engine.specs.Heads.{Heads, response_of}
 use Rattle.orb_engine.specs.Recording as cut
-use Rattle.orb_engine.specs.Recording.{Exchange, Recording, AreExchanges, IsTail, IsRecording, spell_heads, spell_exchanges}
-use Rattle.orb_engine.specs.Ends.{NotBuilt, stop_of}
+use Rattle.orb_engine.specs.Recording.{Exchange, Recording, AreExchanges, IsRecording, spell_heads, spell_exchanges}
 use Rattle.orb_engine.specs.Outputs.{output_of, written_exchanges, written_so_far, written_whole}
-use Rattle.orb_engine.specs.Counts.{rules_of, rules_of_exchanges}
-use Rattle.orb_engine.specs.Reads.{Coming, coming_response, open_cut, table_of, counts_of, IsTold, Stands, Reads, Fills, FillsAt, Stops, Settles}
-use Rattle.orb_engine.specs.Closing.{Closes, Undecided, coming_rule, closed_written}
+use Rattle.orb_engine.specs.Counts.{rules_of_exchanges}
+use Rattle.orb_engine.specs.Reads.{Coming, coming_response, open_cut, table_of, counts_of, IsTold, Stands, Reads, Fills, FillsAt, Settles}
+use Rattle.orb_engine.specs.Closing.{Closes, coming_rule, closed_written}
 use Rattle.orb_engine.proofs.CutLemmas.{spell_exchanges-length, spell_exchanges-snoc, table-snoc, exchanges-snoc, written-snoc, rules-snoc, count-sum, rules-length, exchanges-few}
-use Rattle.orb_engine.proofs.OutputLaws.{written_so_far-undecided}
 
 pub at-filled : (t : State) (incoming : Incoming) (e : Engine) (s : Settings) (m given : List ℕ) → t ≡ state.Body incoming
     → FillsAt t e s m given → Fills incoming e s m given
@@ -43,21 +38,11 @@ pub output-request_head : (s : Settings) (exchanges : List Exchange) (head more 
 unfolding output_of
 output-request_head s exchanges head more ended = append-nil _
 
-pub output-undecided : (s : Settings) (exchanges : List Exchange) (h : Heads) (sent body more : List ℕ) (ended : Bool)
-    → output_of s (record { exchanges = exchanges; tail = cut.Undecided h sent body; more = more }) ended ≡ written_exchanges s map.empty 0 exchanges
-unfolding output_of
-output-undecided s exchanges h sent body more ended = append-nil _
-
 pub output-body : (s : Settings) (exchanges : List Exchange) (h : Heads) (sent body more : List ℕ)
     → output_of s (record { exchanges = exchanges; tail = cut.InBody h sent body; more = more }) false
     ≡ written_exchanges s map.empty 0 exchanges ++ written_so_far s.job (response_of s (table_of exchanges) h) body
 unfolding output_of
 output-body s exchanges h sent body more = refl
-
-pub rules-undecided : (s : Settings) (exchanges : List Exchange) (h : Heads) (sent body more : List ℕ) (ended : Bool)
-    → rules_of s (record { exchanges = exchanges; tail = cut.Undecided h sent body; more = more }) ended ≡ rules_of_exchanges exchanges
-unfolding rules_of
-rules-undecided s exchanges h sent body more ended = append-nil _
 
 pub empty-open : IsOpenHead []
 unfolding head_limit head_length
@@ -83,31 +68,10 @@ spelled : (incoming : Incoming) (e : Engine) (s : Settings) (m given : List ℕ)
 spelled incoming e s m given f =
     f.spells ∙ ap (λ t. spell_exchanges f.coming.exchanges (spell_heads f.coming.heads t)) (sym (append-nil f.coming.sent))
 
--- the body is undecided: nothing of it was written
-pub undecided-stops : (incoming : Incoming) (e e' : Engine) (s : Settings) (m given given' : List ℕ) (f : Fills incoming e s m given)
-    → Undecided e' s f.coming given' → IsTail s (table_of f.coming.exchanges) (cut.Undecided f.coming.heads f.coming.sent f.coming.body)
-    → Stops (outcome.NotBuilt incoming.offset) e' s m false given'
-unfolding stop_of
-undecided-stops incoming e e' s m given given' f u tail =
-    let c = f.coming in
-    let silent : written_so_far s.job (coming_response s c) c.body ≡ [] =
-    written_so_far-undecided s.job (coming_response s c) c.body []
-    (ap (window_rule_of (judged_by s (table_of c.exchanges) c.heads)) (append-nil c.body) ∙ u.none) in
-    record {
-      recording = record { exchanges = c.exchanges; tail = cut.Undecided c.heads c.sent c.body; more = [] };
-      cut = record { spells = spelled incoming e s m given f; exchanges = f.whole; tail = tail; last = λ _. refl };
-      stop = ap (λ p. NotBuilt p) (sym f.receives.offset);
-      gave = u.gave ∙ ap (λ t. written_exchanges s map.empty 0 c.exchanges ++ t) silent ∙ append-nil _
-          ∙ sym (output-undecided s c.exchanges c.heads c.sent c.body [] false);
-      counts = u.common.counts ∙ ap counts_of (sym (rules-undecided s c.exchanges c.heads c.sent c.body [] false));
-      told = u.common.told;
-    }
-
 -- the body may go on
 pub goes-on : (incoming : Incoming) (e : Engine) (s : Settings) (m given : List ℕ) (f : Fills incoming e s m given)
-    → e.state ≡ state.Body incoming → (IsWhole f.coming.heads.response.frame f.coming.sent → ⊥)
-    → is_in_text (judged_by s (table_of f.coming.exchanges) f.coming.heads) f.coming.body ≡ false → Reads e s m given
-goes-on incoming e s m given f is unfinished undecided =
+    → e.state ≡ state.Body incoming → (IsWhole f.coming.heads.response.frame f.coming.sent → ⊥) → Reads e s m given
+goes-on incoming e s m given f is unfinished =
     let c = f.coming in
     record {
       exchanges = c.exchanges;
@@ -115,7 +79,7 @@ goes-on incoming e s m given f is unfinished undecided =
       cut = record {
         spells = spelled incoming e s m given f;
         exchanges = f.whole;
-        tail = record { heads = f.good; front = f.front; unfinished = unfinished; undecided = undecided };
+        tail = record { heads = f.good; front = f.front; unfinished = unfinished };
         last = λ _. refl;
       };
       open_ = refl;
@@ -131,29 +95,29 @@ goes-on incoming e s m given f is unfinished undecided =
       });
     }
 
--- the exchange, where its body ends here and this rule decides it
-abbrev pub whole_exchange : Coming → Rule → Exchange
-whole_exchange c r = record { heads = c.heads; sent = c.sent; body = c.body; rule = r }
+-- the exchange, where its body ends here
+abbrev pub whole_exchange : Settings → Coming → Exchange
+whole_exchange s c = record { heads = c.heads; sent = c.sent; body = c.body; rule = coming_rule s c }
 
 -- the recording with the exchange that has been closed
-closed-cut : (incoming : Incoming) (e : Engine) (s : Settings) (m given : List ℕ) (f : Fills incoming e s m given) (r : Rule)
-    → IsWhole f.coming.heads.response.frame f.coming.sent → coming_rule s f.coming ≡ Some r
-    → IsRecording s m (open_cut (f.coming.exchanges ++ (whole_exchange f.coming r ∷ [])) (cut.InRequestHead []))
-closed-cut incoming e s m given f r whole decided =
-    let i = whole_exchange f.coming r in
+closed-cut : (incoming : Incoming) (e : Engine) (s : Settings) (m given : List ℕ) (f : Fills incoming e s m given)
+    → IsWhole f.coming.heads.response.frame f.coming.sent
+    → IsRecording s m (open_cut (f.coming.exchanges ++ (whole_exchange s f.coming ∷ [])) (cut.InRequestHead []))
+closed-cut incoming e s m given f whole =
+    let i = whole_exchange s f.coming in
     record {
       spells = spelled incoming e s m given f ∙ sym (spell_exchanges-snoc f.coming.exchanges i []);
-      exchanges = exchanges-snoc s map.empty f.coming.exchanges i f.whole (record { heads = f.good; front = f.front; whole = whole; decided = decided });
+      exchanges = exchanges-snoc s map.empty f.coming.exchanges i f.whole (record { heads = f.good; front = f.front; whole = whole; decided = refl });
       tail = empty-open;
       last = λ _. refl;
     }
 
-pub closed-output : (s : Settings) (c : Coming) (r : Rule)
-    → closed_written s c ≡ output_of s (open_cut (c.exchanges ++ (whole_exchange c r ∷ [])) (cut.InRequestHead [])) false
-closed-output s c r =
+pub closed-output : (s : Settings) (c : Coming)
+    → closed_written s c ≡ output_of s (open_cut (c.exchanges ++ (whole_exchange s c ∷ [])) (cut.InRequestHead [])) false
+closed-output s c =
     ap (λ n. written_exchanges s map.empty 0 c.exchanges ++ written_whole s.job n (coming_response s c) c.body) (omega arith)
-    ∙ sym (written-snoc s map.empty 0 c.exchanges (whole_exchange c r))
-    ∙ sym (output-request_head s (c.exchanges ++ (whole_exchange c r ∷ [])) [] [] false)
+    ∙ sym (written-snoc s map.empty 0 c.exchanges (whole_exchange s c))
+    ∙ sym (output-request_head s (c.exchanges ++ (whole_exchange s c ∷ [])) [] [] false)
 
 told-snoc : (n : Counts) (s : Settings) (exchanges : List Exchange) (i : Exchange) (wrote : List ℕ) → IsTold n s exchanges wrote → IsTold n s (exchanges ++ (i ∷ [])) wrote
 told-snoc n s exchanges i wrote told = record {
@@ -167,17 +131,17 @@ told-snoc n s exchanges i wrote told = record {
 -- what the answer of closing says of the recording
 pub settled : (r : Result (Unit {0}) EngineOutcome) (incoming : Incoming) (e e' : Engine) (s : Settings) (m given given' : List ℕ)
     (f : Fills incoming e s m given) → IsWhole f.coming.heads.response.frame f.coming.sent
-    → Closes r incoming.offset e' s f.coming given' → e'.progress.taken ≡ e.progress.taken → Settles r e' s m given'
+    → Closes r e' s f.coming given' → e'.progress.taken ≡ e.progress.taken → Settles r e' s m given'
 settled (Ok done) incoming e e' s m given given' f whole closed taken =
     let c = f.coming in
-    let i = whole_exchange c closed.rule in
-    let recording = closed-cut incoming e s m given f closed.rule whole closed.decided in
+    let i = whole_exchange s c in
+    let recording = closed-cut incoming e s m given f whole in
     record {
       exchanges = c.exchanges ++ (i ∷ []);
       tail = cut.InRequestHead [];
       cut = recording;
       open_ = refl;
-      gave = closed.gave ∙ closed-output s c closed.rule;
+      gave = closed.gave ∙ closed-output s c;
       taken = taken ∙ f.taken;
       common = record {
         settings = closed.settings;
@@ -193,22 +157,16 @@ settled (Ok done) incoming e e' s m given given' f whole closed taken =
         writer = closed.writer;
       });
     }
-settled (Err (outcome.NotBuilt at)) incoming e e' s m given given' f whole closed taken =
-    rw closed.0 (undecided-stops incoming e e' s m given given' f closed.1 (record {
-      heads = f.good;
-      front = f.front;
-      undecided = inr (whole, closed.1.none);
-    }))
 settled (Err outcome.WriteFault) incoming e e' s m given given' f whole falls taken =
-    let i = whole_exchange f.coming falls.rule in
+    let i = whole_exchange s f.coming in
     record {
       seen = m;
       unseen = [];
       all = sym (append-nil m);
       all_seen = λ _. refl;
       recording = open_cut (f.coming.exchanges ++ (i ∷ [])) (cut.InRequestHead []);
-      cut = closed-cut incoming e s m given f falls.rule whole falls.decided;
-      within = subst (λ (t : List ℕ). IsPrefix given' t) (closed-output s f.coming falls.rule) falls.within;
+      cut = closed-cut incoming e s m given f whole;
+      within = subst (λ (t : List ℕ). IsPrefix given' t) (closed-output s f.coming) falls.within;
       told = told-snoc e'.progress.told s f.coming.exchanges i _ falls.told;
     }
 settled (Err outcome.Done) incoming e e' s m given given' f whole never taken = absurd never

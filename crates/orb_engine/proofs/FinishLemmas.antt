@@ -1,28 +1,22 @@
 -- How a recording ends where no more comes.
-use Rattle.std.proofs.Common.{◌≡◌, ℕ, ◌+◌, ◌^◌, ◌<◌, ◌≤◌, true, false, List, [], ◌∷◌, ◌++◌, length, None, Result, Ok, Err, refl, sym, ap, ◌∙◌}
-use Rattle.std.specs.FinMap as map
+use Rattle.std.proofs.Common.{◌≡◌, ℕ, ◌+◌, ◌^◌, ◌<◌, ◌≤◌, true, false, List, [], ◌∷◌, ◌++◌, Result, Ok, Err, refl, sym, ap, ◌∙◌}
 use Rattle.std.proofs.lemmas.List.{append-nil}
-use Rattle.response_rules.specs.Tables.{window_rule_of}
-use Rattle.body_filter.specs.Responses.{Response, whole_output}
 use Rattle.orb_engine.specs.declared.settings.Settings.{Settings}
-use Rattle.orb_engine.specs.declared.settings.Job.{Job}
-use Rattle.orb_engine.specs.declared.settings.Job.TheVariants as job
 use Rattle.orb_engine.specs.declared.engine.Engine.{Engine}
 use Rattle.orb_engine.specs.declared.engine.states.Asked.{Asked}
 use Rattle.orb_engine.specs.declared.engine.states.Incoming.{Incoming}
 use Rattle.orb_engine.specs.declared.outcome.EngineOutcome.{EngineOutcome}
 use Rattle.orb_engine.specs.declared.outcome.EngineOutcome.TheVariants as outcome
-use Rattle.orb_engine.specs.Heads.{Heads, is_to_end, judged_by}
+use Rattle.orb_engine.specs.Heads.{Heads, is_to_end}
 use Rattle.orb_engine.specs.Recording as cut
 use Rattle.orb_engine.specs.Recording.{Exchange, IsRecording, spell_heads, spell_exchanges}
 use Rattle.orb_engine.specs.Ends as ends
 use Rattle.orb_engine.specs.Ends.{stop_of}
-use Rattle.orb_engine.specs.Outputs.{output_of, written_exchanges, written_so_far, written_whole}
+use Rattle.orb_engine.specs.Outputs.{output_of}
 use Rattle.orb_engine.specs.Counts.{rules_of, rules_of_exchanges}
 use Rattle.http_exchange.specs.HeadTexts.{IsOpenHead}
-use Rattle.orb_engine.specs.Reads.{open_cut, table_of, counts_of, coming_response, Stops, Halts, HasRequest, HasResponse}
+use Rattle.orb_engine.specs.Reads.{open_cut, counts_of, Stops, Halts, HasRequest, HasResponse}
 use Rattle.orb_engine.specs.Closing.{Closes, IsClosing}
-use Rattle.orb_engine.proofs.OutputLaws.{written_so_far-undecided}
 use Rattle.orb_engine.proofs.BodyStepLemmas.{HasOpenBody}
 use Rattle.orb_engine.proofs.FillLemmas.{few-exchanges}
 use Rattle.orb_engine.proofs.HeadStepLemmas.{quiet-stops}
@@ -87,12 +81,6 @@ rules-framed : (s : Settings) (exchanges : List Exchange) (h : Heads) (sent body
 unfolding rules_of
 rules-framed s exchanges h sent body is = rw is (append-nil _)
 
-rules-unended : (s : Settings) (exchanges : List Exchange) (h : Heads) (sent body : List ℕ) → is_to_end h.response.frame ≡ true
-    → window_rule_of (judged_by s (table_of exchanges) h) body ≡ None
-    → rules_of s (open_cut exchanges (cut.InBody h sent body)) true ≡ rules_of_exchanges exchanges
-unfolding rules_of
-rules-unended s exchanges h sent body is none = rw (is, none) (append-nil _)
-
 -- in a body that has an end of its own
 pub open_body-cut : (incoming : Incoming) (e : Engine) (s : Settings) (m given : List ℕ) → HasOpenBody incoming e s m given
     → incoming.to_end ≡ false → Stops (outcome.Cut e.progress.offset) e s m true given
@@ -135,14 +123,9 @@ closing-few incoming e s m given h fits =
       receives = h.receives;
     }) fits
 
-none-written : (j : Job) (n : ℕ) (x : Response) (m : List ℕ) → window_rule_of x.head m ≡ None → written_whole j n x m ≡ []
-unfolding written_whole whole_output
-none-written job.Filter n x m none = rw none refl
-none-written job.Explain n x m none = rw none refl
-
 -- a body that the end of the input ends
 pub ended-body : (r : Result (Unit {0}) EngineOutcome) (incoming : Incoming) (e e' : Engine) (s : Settings) (m given given' : List ℕ)
-    (h : HasOpenBody incoming e s m given) → incoming.to_end ≡ true → Closes r incoming.offset e' s h.coming given'
+    (h : HasOpenBody incoming e s m given) → incoming.to_end ≡ true → Closes r e' s h.coming given'
     → Halts (done_or r) e' s m true given'
 unfolding stop_of output_of rules_of
 ended-body (Ok done) incoming e e' s m given given' h to_end closed =
@@ -150,26 +133,10 @@ ended-body (Ok done) incoming e e' s m given given' h to_end closed =
     record {
       recording = open_cut h.coming.exchanges (cut.InBody h.coming.heads h.coming.sent h.coming.body);
       cut = body-cut incoming e s m given h;
-      stop = rw (is, closed.decided) refl;
+      stop = rw is refl;
       gave = closed.gave ∙ rw is refl;
-      counts = closed.counts ∙ rw (is, closed.decided) refl;
+      counts = closed.counts ∙ rw is refl;
       told = closed.told;
-    }
-ended-body (Err (outcome.NotBuilt at)) incoming e e' s m given given' h to_end closed =
-    let c = h.coming in
-    let u = closed.1 in
-    let is : is_to_end c.heads.response.frame ≡ true = sym h.receives.to_end ∙ to_end in
-    let x = coming_response s c in
-    let silent : written_so_far s.job x c.body ≡ [] =
-    written_so_far-undecided s.job x c.body [] (ap (window_rule_of (judged_by s (table_of c.exchanges) c.heads)) (append-nil c.body) ∙ u.none) in
-    record {
-      recording = open_cut c.exchanges (cut.InBody c.heads c.sent c.body);
-      cut = body-cut incoming e s m given h;
-      stop = rw (is, u.none, closed.0) (ap (λ p. ends.NotBuilt p) (sym h.receives.offset));
-      gave = u.gave ∙ ap (λ t. written_exchanges s map.empty 0 c.exchanges ++ t) silent
-          ∙ rw is (ap (λ t. written_exchanges s map.empty 0 c.exchanges ++ t) (sym (none-written s.job (length c.exchanges + 1) x c.body u.none)));
-      counts = u.common.counts ∙ ap counts_of (sym (rules-unended s c.exchanges c.heads c.sent c.body is u.none));
-      told = u.common.told;
     }
 ended-body (Err outcome.WriteFault) incoming e e' s m given given' h to_end falls =
     let is : is_to_end h.coming.heads.response.frame ≡ true = sym h.receives.to_end ∙ to_end in

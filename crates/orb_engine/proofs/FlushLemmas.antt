@@ -94,7 +94,6 @@ as-ends (outcome.Bad kind at) e s m ended given never h = h
 as-ends (outcome.Cut at) e s m ended given never h = h
 as-ends (outcome.HeadLimit at) e s m ended given never h = h
 as-ends (outcome.MediaFull at) e s m ended given never h = h
-as-ends (outcome.NotBuilt at) e s m ended given never h = h
 as-ends outcome.Endless e s m ended given never h = h
 as-ends outcome.ReadFault e s m ended given never h = h
 
@@ -107,7 +106,6 @@ as-stops (outcome.Bad kind at) e s m ended given never h = h
 as-stops (outcome.Cut at) e s m ended given never h = h
 as-stops (outcome.HeadLimit at) e s m ended given never h = h
 as-stops (outcome.MediaFull at) e s m ended given never h = h
-as-stops (outcome.NotBuilt at) e s m ended given never h = h
 as-stops outcome.Endless e s m ended given never h = h
 as-stops outcome.ReadFault e s m ended given never h = h
 
@@ -126,7 +124,6 @@ open-rules s exchanges t is = ap (λ x. rules_of_exchanges exchanges ++ x) (none
     none (cut.LongResponse r head) = refl
     none (cut.BadResponse r head kind) = refl
     none (cut.BadBody h sent body b) = refl
-    none (cut.Undecided h sent body) = refl
 
 exchanges-front : (s : Settings) (exchanges : List Exchange) (t : Tail) → IsPrefix (written_exchanges s map.empty 0 exchanges) (output_of s (open_cut exchanges t) false)
 unfolding output_of
@@ -177,7 +174,6 @@ stands-flushed (state.Body incoming) e e' s exchanges tail h head media same emp
     media = media ∙ h.receives.media;
     id = h.receives.id;
     to_end = h.receives.to_end;
-    offset = h.receives.offset;
   };
 }
 
@@ -194,7 +190,7 @@ reads-flushed e e' s m given all r few head media same state_ progress gave empt
       record {
         recording = recording;
         cut = r.cut;
-        stop = (opens-stop s recording).1 r.open_;
+        stop = (opens-stop recording).1 r.open_;
         gave = out;
         counted = counted e' s recording false (counts ∙ r.common.counts ∙ ap counts_of (sym (open-rules s r.exchanges r.tail r.open_)));
       },

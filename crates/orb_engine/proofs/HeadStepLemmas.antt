@@ -56,7 +56,7 @@ rules-quiet s exchanges t more ended none = ap (λ x. rules_of_exchanges exchang
 pub quiet-stops : (o : EngineOutcome) (e : Engine) (s : Settings) (m given : List ℕ) (ended : Bool) (exchanges : List Exchange) (t : Tail) (more : List ℕ)
     → IsRecording s m (record { exchanges = exchanges; tail = t; more = more })
     → written_tail s (table_of exchanges) (length exchanges) ended t ≡ [] → rules_of_tail s (table_of exchanges) ended t ≡ []
-    → IsStop o (stop_of s (record { exchanges = exchanges; tail = t; more = more }) ended)
+    → IsStop o (stop_of (record { exchanges = exchanges; tail = t; more = more }) ended)
     → given ++ gathered_by e.writer ≡ written_exchanges s map.empty 0 exchanges
     → e.progress.counts ≡ counts_of (rules_of_exchanges exchanges) → IsTold e.progress.told s exchanges given
     → Stops o e s m ended given
@@ -87,7 +87,7 @@ open-request e s m given r is =
       head = a.head;
       spells = r.cut.spells ∙ ap (λ t. spell_exchanges r.exchanges (spell_tail t [])) a.is ∙ ap (spell_exchanges r.exchanges) (append-nil a.head);
       whole = r.cut.exchanges;
-      text = subst (λ (t : Tail). IsTail s (table_of r.exchanges) t) a.is r.cut.tail;
+      text = subst (λ (t : Tail). IsTail (table_of r.exchanges) t) a.is r.cut.tail;
       buffer = a.text;
       media = a.media;
       writer = a.writer;
@@ -126,7 +126,7 @@ pub open-response : (asked : Asked) (e : Engine) (s : Settings) (m given : List 
 unfolding output_of
 open-response asked e s m given r is =
     let a = response_head-at e.state asked e s r.exchanges r.tail is r.stands in
-    let t = subst (λ (t : Tail). IsTail s (table_of r.exchanges) t) a.is r.cut.tail in
+    let t = subst (λ (t : Tail). IsTail (table_of r.exchanges) t) a.is r.cut.tail in
     record {
       exchanges = r.exchanges;
       request = a.request;
@@ -308,7 +308,6 @@ stop-closed (outcome.Bad kind at) stop is open_ = cc
 stop-closed (outcome.Cut at) stop is open_ = cc
 stop-closed (outcome.HeadLimit at) stop is open_ = cc
 stop-closed (outcome.MediaFull at) stop is open_ = cc
-stop-closed (outcome.NotBuilt at) stop is open_ = cc
 stop-closed outcome.Endless stop never open_ = never
 stop-closed outcome.ReadFault stop never open_ = never
 stop-closed outcome.WriteFault stop never open_ = never
@@ -317,7 +316,7 @@ stop-closed outcome.WriteFault stop never open_ = never
 pub stops-longer : (o : EngineOutcome) (e : Engine) (s : Settings) (m more given : List ℕ) → Stops o e s m false given
     → Stops o e s (m ++ more) false given
 stops-longer o e s m more given stops =
-    let closed = stop-closed o (stop_of s stops.recording false) stops.stop in
+    let closed = stop-closed o (stop_of stops.recording false) stops.stop in
     let (r, cut_, same) = refusal-stands s m more stops.recording stops.cut closed in
     let (others, are) = exchanges-longer s m more stops.recording r stops.cut cut_ in
     record {
@@ -355,7 +354,6 @@ halts-longer (outcome.Bad kind at) e s m more given h = stops-longer (outcome.Ba
 halts-longer (outcome.Cut at) e s m more given h = stops-longer (outcome.Cut at) e s m more given h
 halts-longer (outcome.HeadLimit at) e s m more given h = stops-longer (outcome.HeadLimit at) e s m more given h
 halts-longer (outcome.MediaFull at) e s m more given h = stops-longer (outcome.MediaFull at) e s m more given h
-halts-longer (outcome.NotBuilt at) e s m more given h = stops-longer (outcome.NotBuilt at) e s m more given h
 halts-longer outcome.Endless e s m more given h = stops-longer outcome.Endless e s m more given h
 halts-longer outcome.ReadFault e s m more given h = stops-longer outcome.ReadFault e s m more given h
 

@@ -57,7 +57,6 @@ passed-fills incoming e e' s m piece given more p kept gave reads = record {
     media = kept.media ∙ p.media;
     id = p.id;
     to_end = p.to_end;
-    offset = p.offset;
   };
 }
 

@@ -14,7 +14,7 @@ use Rattle.orb_engine.proofs.ExchangeLaws.{item_not_tail, same_items, tail_grows
 pub record IsCut (s : Settings) (table : States) (bytes : List ℕ) (exchanges : List Exchange) (tail : Tail) (more : List ℕ) : Type 0 where
   pub spells : bytes ≡ spell_exchanges exchanges (spell_tail tail more)
   pub whole : AreExchanges s table exchanges
-  pub stands : IsTail s (table_after_all table exchanges) tail
+  pub stands : IsTail (table_after_all table exchanges) tail
   pub last : is_open tail ≡ true → more ≡ []
 
 -- ---- the same bytes
@@ -40,7 +40,7 @@ one_cut s table l (i ∷ exchanges) t more (j ∷ jtems) u others x y =
     let second : IsCut s (table_after table i) r jtems u others = record {
       spells = same.1;
       whole = subst (λ k. AreExchanges s (table_after table k) jtems) (sym same.0) y.whole.1;
-      stands = subst (λ k. IsTail s (table_after_all (table_after table k) jtems) u) (sym same.0) y.stands;
+      stands = subst (λ k. IsTail (table_after_all (table_after table k) jtems) u) (sym same.0) y.stands;
       last = y.last;
     } in
     let rest = one_cut s (table_after table i) r exchanges t more jtems u others first second in
@@ -111,7 +111,7 @@ grow_cut s table l x (i ∷ exchanges) t more (j ∷ jtems) u others a b =
     let second : IsCut s (table_after table i) (r ++ x) jtems u others = record {
       spells = same.1;
       whole = subst (λ k. AreExchanges s (table_after table k) jtems) (sym same.0) b.whole.1;
-      stands = subst (λ k. IsTail s (table_after_all (table_after table k) jtems) u) (sym same.0) b.stands;
+      stands = subst (λ k. IsTail (table_after_all (table_after table k) jtems) u) (sym same.0) b.stands;
       last = b.last;
     } in
     subst (λ k. Grows s table (i ∷ exchanges) t (k ∷ jtems) u) same.0

@@ -42,7 +42,7 @@ read-ends e s m given r =
     record {
       recording = cutting;
       cut = r.reads.cut;
-      stop = (opens-stop s cutting).1 r.reads.open_;
+      stop = (opens-stop cutting).1 r.reads.open_;
       gave = sym (append-nil given) ∙ ap (λ (t : OutboxState). given ++ t.bytes) (sym r.flushed) ∙ r.reads.gave;
       counted = record {
         allowed = ap (λ c. c.allowed) counts;

@@ -5,7 +5,6 @@ use Rattle.media_state.specs.Table.{States}
 use Rattle.http_exchange.specs.Reading.{ReadsRequestHead, ReadsResponseHead}
 use Rattle.http_exchange.specs.declared.refusals.BadKind.{BadKind}
 use Rattle.http_exchange.specs.declared.request.RequestHead.{RequestHead}
-use Rattle.orb_engine.specs.declared.settings.Settings.{Settings}
 use Rattle.http_exchange.specs.HeadTexts.{IsOpenHead}
 use Rattle.orb_engine.specs.Heads.{RequestText, ResponseText, Heads, IsRequestIn, IsResponseHead, AreHeads, id_of}
 use Rattle.media_state.specs.Table.{IsRefusedId}
@@ -157,7 +156,6 @@ ask_of (cut.FullTable r) more = AskFull r
 ask_of (cut.LongResponse r head) more = Asked r (head ++ more)
 ask_of (cut.BadResponse r head kind) more = Asked r (head ++ more)
 ask_of (cut.BadBody h sent body b) more = Asked h.request (h.response.bytes ++ (sent ++ (b ∷ more)))
-ask_of (cut.Undecided h sent body) more = Asked h.request (h.response.bytes ++ (sent ++ more))
 
 abbrev pub answer_of : Tail → (more : List ℕ) → Answer
 answer_of (cut.InRequestHead head) more = NoAnswer
@@ -169,7 +167,6 @@ answer_of (cut.FullTable r) more = NoAnswer
 answer_of (cut.LongResponse r head) more = AnswerLong
 answer_of (cut.BadResponse r head kind) more = AnswerBad head kind
 answer_of (cut.BadBody h sent body b) more = Answered h.response (sent ++ (b ∷ more))
-answer_of (cut.Undecided h sent body) more = Answered h.response (sent ++ more)
 
 asked : (table : States) (r : RequestText) (rest : List ℕ) → IsRequestIn table r → IsAsk table (r.bytes ++ rest) (Asked r rest)
 asked table r rest h = (view-stands r.bytes rest h.head.text, h.head.reads, h.room)
@@ -185,33 +182,32 @@ start_of_heads table h rest are = record {
 opens : (head more : List ℕ) → more ≡ [] → IsOpenHead head → view (head ++ more) ≡ Opens
 opens head more none h = ap view (ap (λ l. head ++ l) none ∙ append-nil head) ∙ view-open head h
 
-pub start_of_tail : (s : Settings) (table : States) (t : Tail) (more : List ℕ) → IsTail s table t
+pub start_of_tail : (table : States) (t : Tail) (more : List ℕ) → IsTail table t
     → (is_open t ≡ true → more ≡ []) → IsStart table (spell_tail t more) (ask_of t more) (answer_of t more)
-start_of_tail s table (cut.InRequestHead head) more h last = record { asks = opens head more (last refl) h; answers = refl }
-start_of_tail s table (cut.InResponseHead r head) more h last = record {
+start_of_tail table (cut.InRequestHead head) more h last = record { asks = opens head more (last refl) h; answers = refl }
+start_of_tail table (cut.InResponseHead r head) more h last = record {
   asks = asked table r (head ++ more) h.0;
   answers = opens head more (last refl) h.1;
 }
-start_of_tail s table (cut.InBody g sent body) more h last = start_of_heads table g (sent ++ more) h.heads
-start_of_tail s table (cut.LongRequest head) more h last = record { asks = view-long head more h; answers = refl }
-start_of_tail s table (cut.BadRequest head kind) more h last = record {
+start_of_tail table (cut.InBody g sent body) more h last = start_of_heads table g (sent ++ more) h.heads
+start_of_tail table (cut.LongRequest head) more h last = record { asks = view-long head more h; answers = refl }
+start_of_tail table (cut.BadRequest head kind) more h last = record {
   asks = (more, view-stands head more h.0, h.1);
   answers = refl;
 }
-start_of_tail s table (cut.FullTable r) more h last = record {
+start_of_tail table (cut.FullTable r) more h last = record {
   asks = (more, view-stands r.bytes more h.0.text, h.0.reads, h.1);
   answers = refl;
 }
-start_of_tail s table (cut.LongResponse r head) more h last = record {
+start_of_tail table (cut.LongResponse r head) more h last = record {
   asks = asked table r (head ++ more) h.0;
   answers = view-long head more h.1;
 }
-start_of_tail s table (cut.BadResponse r head kind) more h last = record {
+start_of_tail table (cut.BadResponse r head kind) more h last = record {
   asks = asked table r (head ++ more) h.0;
   answers = (more, view-stands head more h.1, h.2);
 }
-start_of_tail s table (cut.BadBody g sent body b) more h last = start_of_heads table g (sent ++ (b ∷ more)) h.sending.heads
-start_of_tail s table (cut.Undecided g sent body) more h last = start_of_heads table g (sent ++ more) h.heads
+start_of_tail table (cut.BadBody g sent body b) more h last = start_of_heads table g (sent ++ (b ∷ more)) h.sending.heads
 
 -- ---- two good heads
 

@@ -1,13 +1,10 @@
 -- How much of a body was read, and what a fault in it leaves.
-use Rattle.std.proofs.Common.{Result, ◌≡◌, ◌⊎◌, ℕ, zero, suc, ◌+◌, ◌≤◌, Bool, true, false, List, [], ◌∷◌, ◌++◌, length, Option, None, Some, refl, sym, ap, subst, ◌∙◌, inl, inr, arith, append_assoc}
+use Rattle.std.proofs.Common.{Result, ◌≡◌, ◌⊎◌, ℕ, zero, suc, ◌+◌, ◌≤◌, Bool, true, false, List, [], ◌∷◌, ◌++◌, length, refl, sym, ap, subst, ◌∙◌, inl, inr, arith, append_assoc}
 use Rattle.std.specs.FinMap as map
 use Rattle.std.proofs.lemmas.List.{append-nil}
 use Rattle.std.proofs.lemmas.Bool.{false≢true}
 use Rattle.orb_io.specs.Told.{IsPrefix}
 use Rattle.orb_io.proofs.ToldLemmas.{IsPrefix-all, IsPrefix-trans, IsPrefix-after, IsPrefix-append}
-use Rattle.response_rules.specs.declared.rules.Rule.{Rule}
-use Rattle.response_rules.specs.Tables.{window_rule_of}
-use Rattle.response_rules.specs.Settled.{is_in_text}
 use Rattle.http_exchange.specs.Marks.{Mark, Frame, Content, bytes_of, content_of}
 use Rattle.http_exchange.specs.Places.{is_end}
 use Rattle.http_exchange.specs.Frames.{IsFront, IsWhole}
@@ -21,17 +18,15 @@ use Rattle.http_exchange.specs.declared.unframing.Unframer.{Unframer}
 use Rattle.http_exchange.proofs.UnframerLemmas.{whole_read}
 use Rattle.orb_engine.specs.declared.settings.Settings.{Settings}
 use Rattle.orb_engine.specs.declared.engine.Engine.{Engine}
-use Rattle.orb_engine.specs.Heads.{Heads, AreHeads, response_of, judged_by}
+use Rattle.orb_engine.specs.Heads.{Heads, AreHeads, response_of}
 use Rattle.orb_engine.specs.Recording as cut
 use Rattle.orb_engine.specs.Recording.{Exchange, Recording, AreExchanges, IsRecording, spell_heads, spell_exchanges}
 use Rattle.orb_engine.specs.Outputs.{output_of, written_exchanges, written_so_far}
 use Rattle.orb_engine.specs.declared.outcome.EngineOutcome.{EngineOutcome}
-use Rattle.orb_engine.specs.Reads.{open_cut, table_of, IsTold, Breaks, HaltCause, Causes}
+use Rattle.orb_engine.specs.Reads.{Coming, open_cut, table_of, IsTold, Breaks, HaltCause, Causes}
 use Rattle.orb_engine.proofs.CutLemmas.{spell_exchanges-snoc, exchanges-snoc}
-use Rattle.orb_engine.proofs.OutputLaws.{written_so_far-undecided}
-use Rattle.orb_engine.proofs.BodyLaws.{text-rule}
 use Rattle.orb_engine.proofs.ClosingLemmas.{so_far-in-whole}
-use Rattle.orb_engine.proofs.FillLemmas.{empty-open, output-undecided, output-body, closed-output}
+use Rattle.orb_engine.proofs.FillLemmas.{empty-open, output-body, whole_exchange, closed-output}
 
 -- content is no longer than the bytes in which it is sent
 content-short : (k : List Mark) → length (content_of k) ≤ length (bytes_of k)
@@ -78,60 +73,40 @@ pub seen-body : (s : Settings) (m : List ℕ) (exchanges : List Exchange) (h : H
     → IsFront h.response.frame sent body → UnframerHasRead u h.response.frame sent body
     → IsSeen s m exchanges (written_exchanges s map.empty 0 exchanges ++ written_so_far s.job (response_of s (table_of exchanges) h) body)
 seen-body s m exchanges h sent body u spells whole good front reads =
-    elim (whole-or-not u h.response.frame sent body reads.stands) [
-      | inl ended ↦ by_rule (window_rule_of (judged_by s (table_of exchanges) h) body) refl ended
-      | inr unfinished ↦ by_text (is_in_text (judged_by s (table_of exchanges) h) body) refl unfinished
-    ]
+    elim (whole-or-not u h.response.frame sent body reads.stands) [ inl ended ↦ closed ended | inr unfinished ↦ coming unfinished ]
   where
+    Seen : Type 0
+    Seen = IsSeen s m exchanges (written_exchanges s map.empty 0 exchanges ++ written_so_far s.job (response_of s (table_of exchanges) h) body)
+
     spelled : m ≡ spell_exchanges exchanges (spell_heads h (sent ++ []))
     spelled = spells ∙ ap (λ t. spell_exchanges exchanges (spell_heads h t)) (sym (append-nil sent))
 
-    undecided : cut.IsUndecided s (table_of exchanges) h sent body → window_rule_of (judged_by s (table_of exchanges) h) body ≡ None
-        → IsSeen s m exchanges (written_exchanges s map.empty 0 exchanges ++ written_so_far s.job (response_of s (table_of exchanges) h) body)
-    undecided tail none = record {
-      recording = record { exchanges = exchanges; tail = cut.Undecided h sent body; more = [] };
-      cut = record { spells = spelled; exchanges = whole; tail = tail; last = λ _. refl };
-      within = (
-        [],
-        sym (append-nil _ ∙ ap (λ t. written_exchanges s map.empty 0 exchanges ++ t)
-            (written_so_far-undecided s.job (response_of s (table_of exchanges) h) body []
-            (ap (window_rule_of (judged_by s (table_of exchanges) h)) (append-nil body) ∙ none))
-            ∙ append-nil _ ∙ sym (output-undecided s exchanges h sent body [] false)),
-      );
-      others = [];
-      are = sym (append-nil exchanges);
-    }
-
-    by_rule : (o : Option Rule) → window_rule_of (judged_by s (table_of exchanges) h) body ≡ o → IsWhole h.response.frame sent
-        → IsSeen s m exchanges (written_exchanges s map.empty 0 exchanges ++ written_so_far s.job (response_of s (table_of exchanges) h) body)
-    by_rule None is ended = undecided (record { heads = good; front = front; undecided = inr (ended, is) }) is
-    by_rule (Some r) is ended =
-        let i : Exchange = record { heads = h; sent = sent; body = body; rule = r } in
+    closed : IsWhole h.response.frame sent → Seen
+    closed ended =
+        let c : Coming = record { exchanges = exchanges; heads = h; sent = sent; body = body } in
+        let i = whole_exchange s c in
         record {
           recording = open_cut (exchanges ++ (i ∷ [])) (cut.InRequestHead []);
           cut = record {
             spells = spelled ∙ sym (spell_exchanges-snoc exchanges i []);
-            exchanges = exchanges-snoc s map.empty exchanges i whole (record { heads = good; front = front; whole = ended; decided = is });
+            exchanges = exchanges-snoc s map.empty exchanges i whole (record { heads = good; front = front; whole = ended; decided = refl });
             tail = empty-open;
             last = λ _. refl;
           };
           within = subst (λ (t : List ℕ). IsPrefix (written_exchanges s map.empty 0 exchanges ++ written_so_far s.job (response_of s (table_of exchanges) h) body) t)
-              (closed-output s (record { exchanges = exchanges; heads = h; sent = sent; body = body }) r)
+              (closed-output s c)
               (IsPrefix-after (written_exchanges s map.empty 0 exchanges) _ _ (so_far-in-whole s.job (length exchanges + 1) (response_of s (table_of exchanges) h) body));
           others = i ∷ [];
           are = refl;
         }
 
-    by_text : (b : Bool) → is_in_text (judged_by s (table_of exchanges) h) body ≡ b → (IsWhole h.response.frame sent → ⊥)
-        → IsSeen s m exchanges (written_exchanges s map.empty 0 exchanges ++ written_so_far s.job (response_of s (table_of exchanges) h) body)
-    by_text true is unfinished =
-        undecided (record { heads = good; front = front; undecided = inl is }) (text-rule (judged_by s (table_of exchanges) h) body is)
-    by_text false is unfinished = record {
+    coming : (IsWhole h.response.frame sent → ⊥) → Seen
+    coming unfinished = record {
       recording = open_cut exchanges (cut.InBody h sent body);
       cut = record {
         spells = spelled;
         exchanges = whole;
-        tail = record { heads = good; front = front; unfinished = unfinished; undecided = is };
+        tail = record { heads = good; front = front; unfinished = unfinished };
         last = λ _. refl;
       };
       within = subst (λ (t : List ℕ). IsPrefix t (output_of s (open_cut exchanges (cut.InBody h sent body)) false))

@@ -1,9 +1,9 @@
 -- What the two jobs put of one exchange.
-use Rattle.std.proofs.Common.{◌≡◌, ℕ, ◌+◌, ◌*◌, ◌^◌, ◌≤◌, ◌<◌, Bool, true, false, List, [], length, length-append, lit≤, Option, Some, None, refl, sym, ap, subst, ◌∙◌, arith}
+use Rattle.std.proofs.Common.{◌≡◌, ℕ, ◌+◌, ◌*◌, ◌^◌, ◌≤◌, ◌<◌, Bool, true, false, List, [], length, length-append, lit≤, refl, sym, ap, subst, ◌∙◌, arith}
 use Rattle.body_filter.proofs.LawLemmas.{so_far-length, output-length}
 use Rattle.response_rules.specs.declared.deciding.Decider.{Decider}
 use Rattle.response_rules.specs.declared.verdicts.Verdict.{Verdict}
-use Rattle.response_rules.specs.Tables.{window_rule_of}
+use Rattle.response_rules.specs.Tables.{rule_of}
 use Rattle.response_rules.specs.Reads.{HasRead as DeciderHasRead, IsVerdict}
 use Rattle.body_filter.specs.Responses.{Response, output_so_far, whole_output}
 use Rattle.body_filter.specs.Reads.{HasRead as FilterHasRead, limit_of}
@@ -13,17 +13,12 @@ use Rattle.orb_engine.specs.declared.settings.Job.{Job}
 use Rattle.orb_engine.specs.declared.settings.Job.TheVariants as job
 use Rattle.orb_engine.specs.declared.worker.Worker.{Worker}
 use Rattle.orb_engine.specs.declared.worker.Worker.TheVariants as worker
-use Rattle.std.specs.Prelude.{nat_le, is_none}
-use Rattle.std.proofs.lemmas.Bool.Decides.{nat_tests}
 use Rattle.std.proofs.lemmas.Fmt.{length-decimal-le}
 use Rattle.media_state.specs.declared.states.MediaState.{MediaState}
 use Rattle.media_state.specs.States.{name_of as state_name}
 use Rattle.media_state.specs.declared.states.MediaState.TheVariants as state
 use Rattle.response_rules.specs.declared.rules.Rule.{Rule}
-use Rattle.response_rules.specs.Rules.{is_allowing, state_behind}
-use Rattle.response_rules.specs.Heads.{Head}
-use Rattle.response_rules.specs.Tables.{window_size}
-use Rattle.response_rules.specs.Settled.{is_in_text}
+use Rattle.response_rules.specs.Rules.{is_allowing, state_after_rule}
 use Rattle.response_rules.proofs.NameLemmas.{name-short}
 use Rattle.orb_engine.specs.Outputs.{verdict_name, line_of, line_by, written_so_far, written_whole}
 use Rattle.orb_engine.specs.Workers.{IsWorkerFor, WorkerReads}
@@ -41,7 +36,7 @@ unfolding written_whole
 whole-filter j n x m is = rw is refl
 
 pub whole-explain : (j : Job) (n : ℕ) (x : Response) (m : List ℕ) → j ≡ job.Explain
-    → written_whole j n x m ≡ line_by n x (length m) (window_rule_of x.head m)
+    → written_whole j n x m ≡ line_by n x (length m) (rule_of x.head m)
 unfolding written_whole
 whole-explain j n x m is = rw is refl
 
@@ -68,8 +63,8 @@ reads-explain w d x m is h = subst (λ (v : Worker). WorkerReads v x m) is h
 
 -- the line that is owed
 pub line-owed : (number : ℕ) (x : Response) (m : List ℕ) (v : Verdict) → IsVerdict x.head m v
-    → line_by number x (length m) (window_rule_of x.head m) ≡ line_of number v.rule v.state (length m)
-line-owed number x m v is = rw (is.rule, is.state) refl
+    → line_by number x (length m) (rule_of x.head m) ≡ line_of number v.rule v.state (length m)
+line-owed number x m v is = rw (is.state, is.rule) refl
 
 pub line-written : (number size : ℕ) (s : Settings) (x : Response) (m : List ℕ) (v : Verdict) (line : List ℕ)
     → s.job ≡ job.Explain → IsVerdict x.head m v → size ≡ length m → line ≡ line_of number v.rule v.state size
@@ -112,12 +107,6 @@ line-short number size r t number_fits size_fits =
     let k = state-short t in
     simp length-append (omega arith)
 
-line-by-short : (number size : ℕ) (x : Response) (o : Option Rule) → number < 2 ^ 64 → size < 2 ^ 64
-    → length (line_by number x size o) ≤ 128
-line-by-short number size x None number_fits size_fits = omega arith
-line-by-short number size x (Some r) number_fits size_fits =
-    line-short number size r (state_behind x.head.state r) number_fits size_fits
-
 pub whole-most : (s : Settings) (number : ℕ) (x : Response) (m : List ℕ) → number < 2 ^ 64 → length m < 2 ^ 64
     → length (written_whole s.job number x m) ≤ length x.bytes + 2 * length m + 128
 whole-most s number x m number_fits size_fits = by s.job refl
@@ -125,19 +114,4 @@ whole-most s number x m number_fits size_fits = by s.job refl
     by : (i : Job) → s.job ≡ i → length (written_whole s.job number x m) ≤ length x.bytes + 2 * length m + 128
     by job.Filter is = omega (arith, ap length (whole-filter s.job number x m is), output-length x m)
     by job.Explain is =
-        omega (arith, ap length (whole-explain s.job number x m is), line-by-short number (length m) x (window_rule_of x.head m) number_fits size_fits)
-
-le-true : (a b : ℕ) → a ≤ b → nat_le a b ≡ true
-le-true a b h = grind (arith, nat_tests)
-
-le-false : (a b : ℕ) → b < a → nat_le a b ≡ false
-le-false a b h = grind (arith, nat_tests)
-
--- the body fills the window or doesn't, and a rule decides it or none
-pub undecided-full : (h : Head) (m : List ℕ) (b : Bool) → 1024 ≤ length m → b ≡ is_none (window_rule_of h m) → b ≡ is_in_text h m
-unfolding is_in_text window_size
-undecided-full h m b full none = rw (le-true 1024 (length m) full) none
-
-pub undecided-short : (h : Head) (m : List ℕ) → length m < 1024 → false ≡ is_in_text h m
-unfolding is_in_text window_size
-undecided-short h m short = rw (le-false 1024 (length m) short) refl
+        omega (arith, ap length (whole-explain s.job number x m is), line-short number (length m) (rule_of x.head m) (state_after_rule x.head.state (rule_of x.head m)) number_fits size_fits)

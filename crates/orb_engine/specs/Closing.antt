@@ -1,10 +1,10 @@
 -- What closing an exchange does.
-use Rattle.std.specs.Prelude.{◌≡◌, ℕ, ◌+◌, List, [], ◌∷◌, ◌++◌, length, Option, Some, None, Result, Ok, Err}
+use Rattle.std.specs.Prelude.{◌≡◌, ℕ, ◌+◌, List, [], ◌∷◌, ◌++◌, length, Option, Result, Ok, Err}
 use Rattle.std.specs.FinMap as map
 use Rattle.orb_io.specs.Told.{IsPrefix}
 use Rattle.response_rules.specs.declared.rules.Rule.{Rule}
-use Rattle.response_rules.specs.Tables.{window_rule_of}
-use Rattle.response_rules.specs.Rules.{state_behind}
+use Rattle.response_rules.specs.Tables.{rule_of}
+use Rattle.response_rules.specs.Rules.{state_after_rule}
 use Rattle.orb_engine.specs.declared.settings.Settings.{Settings}
 use Rattle.orb_engine.specs.declared.engine.Engine.{Engine}
 use Rattle.orb_engine.specs.declared.engine.states.State.TheVariants as state
@@ -17,9 +17,9 @@ use Rattle.orb_engine.specs.Counts.{rules_of_exchanges}
 use Rattle.orb_engine.specs.Writing.{IsWriterFor, WriterReads, gathered_by}
 use Rattle.orb_engine.specs.Reads.{Coming, coming_response, coming_written, Common, IsTold, counts_of, table_of}
 
--- the rule of the head or the window that decides the exchange, if its body ends here
-abbrev pub coming_rule : Settings → Coming → Option Rule
-coming_rule s c = window_rule_of (judged_by s (table_of c.exchanges) c.heads) c.body
+-- the rule of the exchange, if its body ends here
+abbrev pub coming_rule : Settings → Coming → Rule
+coming_rule s c = rule_of (judged_by s (table_of c.exchanges) c.heads) c.body
 
 -- what is written of the exchanges before it and of it, if its body ends here
 abbrev pub closed_written : Settings → Coming → List ℕ
@@ -34,42 +34,27 @@ pub record IsClosing (e : Engine) (s : Settings) (c : Coming) (id : Option ℕ) 
   pub media : e.media ≡ admits (table_of c.exchanges) (id_of c.heads.request.asks)
   pub id_is : id ≡ id_of c.heads.request.asks
 
--- a rule decides it, and the engine is after it
+-- the exchange is whole, and the engine is after it
 pub record Closed (e : Engine) (s : Settings) (c : Coming) (given : List ℕ) : Type 0 where
-  pub rule : Rule
-  pub decided : coming_rule s c ≡ Some rule
   pub gave : given ++ gathered_by e.writer ≡ closed_written s c
   pub settings : e.writer.settings ≡ s
-  pub counts : e.progress.counts ≡ counts_of (rules_of_exchanges c.exchanges ++ (rule ∷ []))
+  pub counts : e.progress.counts ≡ counts_of (rules_of_exchanges c.exchanges ++ (coming_rule s c ∷ []))
   pub told : IsTold e.progress.told s c.exchanges given
   pub asking : e.state ≡ state.RequestHead
   pub head : e.head ≡ []
-  pub media : e.media ≡ keeps (table_of c.exchanges) (id_of c.heads.request.asks) (state_behind (state_of (table_of c.exchanges) c.heads) rule)
+  pub media : e.media
+      ≡ keeps (table_of c.exchanges) (id_of c.heads.request.asks)
+      (state_after_rule (state_of (table_of c.exchanges) c.heads) (coming_rule s c))
   pub writer : IsWriterFor e.writer s
   pub offset : e.progress.offset ≡ e.progress.taken
 
--- no rule that is built decides it, and nothing was given of it
-pub record Undecided (e : Engine) (s : Settings) (c : Coming) (given : List ℕ) : Type 0 where
-  pub none : coming_rule s c ≡ None
-  pub gave : given ++ gathered_by e.writer ≡ coming_written s c
-  pub common : Common e s c.exchanges given
-
 -- the sink failed
 pub record ClosedBreaks (e : Engine) (s : Settings) (c : Coming) (given : List ℕ) : Type 0 where
-  pub rule : Rule
-  pub decided : coming_rule s c ≡ Some rule
   pub within : IsPrefix given (closed_written s c)
   pub told : IsTold e.progress.told s c.exchanges given
 
--- what closing answers, where the response begins at this place
-abbrev pub Closes : Result (Unit {0}) EngineOutcome → (offset : ℕ) → Engine → Settings → Coming → (given : List ℕ) → Type 0
-Closes (Ok done) offset e s c given = Closed e s c given
-Closes (Err (outcome.NotBuilt at)) offset e s c given = (at ≡ offset) × Undecided e s c given
-Closes (Err outcome.WriteFault) offset e s c given = ClosedBreaks e s c given
-Closes (Err _) offset e s c given = ⊥
-
--- the same, where a rule decides
-abbrev pub ClosesDecided : Result (Unit {0}) EngineOutcome → Engine → Settings → Coming → (given : List ℕ) → Type 0
-ClosesDecided (Ok done) e s c given = Closed e s c given
-ClosesDecided (Err outcome.WriteFault) e s c given = ClosedBreaks e s c given
-ClosesDecided (Err _) e s c given = ⊥
+-- what closing answers
+abbrev pub Closes : Result (Unit {0}) EngineOutcome → Engine → Settings → Coming → (given : List ℕ) → Type 0
+Closes (Ok done) e s c given = Closed e s c given
+Closes (Err outcome.WriteFault) e s c given = ClosedBreaks e s c given
+Closes (Err _) e s c given = ⊥

@@ -11,12 +11,12 @@ use Rattle.orb_engine.specs.Runs.{run_limit}
 -- the bytes are this recording, which ends after a whole exchange or is empty, and one run takes so many
 pub record IsWholeRecording (s : Settings) (bytes : List ℕ) (r : Recording) : Type 0 where
   pub cut : IsRecording s bytes r
-  pub done : stop_of s r true ≡ Done
+  pub done : stop_of r true ≡ Done
   pub fits : length bytes ≤ run_limit
 
 -- the first bytes of the whole recording, which are this one, are all of it
 pub record IsAll (s : Settings) (r first : Recording) (ended : Bool) (rest : List ℕ) : Type 0 where
-  pub stop : stop_of s first ended ≡ Done
+  pub stop : stop_of first ended ≡ Done
   pub none_left : rest ≡ []
   pub output : output_of s first ended ≡ output_of s r true
 

@@ -1,23 +1,19 @@
 -- How many whole exchanges a recording has, by verdict.
-use Rattle.std.specs.Prelude.{ℕ, Bool, ◌&&◌, not, List, [], ◌∷◌, ◌++◌, map, count_by, Option, Some, None, if◌then◌else◌}
+use Rattle.std.specs.Prelude.{ℕ, Bool, ◌&&◌, not, List, [], ◌∷◌, ◌++◌, map, count_by, if◌then◌else◌}
 use Rattle.std.specs.FinMap as finite
 use Rattle.media_state.specs.Table.{States}
 use Rattle.response_rules.specs.declared.rules.Rule.{Rule}
 use Rattle.response_rules.specs.Rules.{is_allowing}
-use Rattle.response_rules.specs.Tables.{window_rule_of}
+use Rattle.response_rules.specs.Tables.{rule_of}
 use Rattle.orb_engine.specs.declared.settings.Settings.{Settings}
 use Rattle.orb_engine.specs.Heads.{judged_by, is_to_end}
 use Rattle.orb_engine.specs.Recording as cut
 use Rattle.orb_engine.specs.Recording.{Exchange, Tail, Recording, table_after_all}
 
-abbrev pub as_list : Option Rule → List Rule
-as_list None = []
-as_list (Some rule) = rule ∷ []
-
 -- the rule of a tail that is a whole exchange where the input has ended
 abbrev pub rules_of_tail : Settings → States → (ended : Bool) → Tail → List Rule
 rules_of_tail s table ended (cut.InBody h sent body) =
-    if ended && is_to_end h.response.frame then as_list (window_rule_of (judged_by s table h) body) else []
+    if ended && is_to_end h.response.frame then rule_of (judged_by s table h) body ∷ [] else []
 rules_of_tail s table ended tail = []
 
 abbrev pub rules_of_exchanges : List Exchange → List Rule

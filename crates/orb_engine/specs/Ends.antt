@@ -1,15 +1,10 @@
 -- Where a recording ends. A offset is that of a byte, counted from 0.
-use Rattle.std.specs.Prelude.{ℕ, ◌+◌, Bool, true, false, [], ◌∷◌, length, Option, Some, None, if◌then◌else◌}
-use Rattle.std.specs.FinMap as map
-use Rattle.media_state.specs.Table.{States}
-use Rattle.response_rules.specs.declared.rules.Rule.{Rule}
-use Rattle.response_rules.specs.Tables.{window_rule_of}
+use Rattle.std.specs.Prelude.{ℕ, ◌+◌, Bool, true, false, [], ◌∷◌, length, if◌then◌else◌}
 use Rattle.http_exchange.specs.declared.refusals.BadKind.{BadKind}
 use Rattle.http_exchange.specs.declared.refusals.BadKind.TheVariants.{BadChunk}
-use Rattle.orb_engine.specs.declared.settings.Settings.{Settings}
-use Rattle.orb_engine.specs.Heads.{Heads, judged_by, is_to_end}
+use Rattle.orb_engine.specs.Heads.{Heads, is_to_end}
 use Rattle.orb_engine.specs.Recording as cut
-use Rattle.orb_engine.specs.Recording.{Tail, Recording, spell_exchanges, table_after_all}
+use Rattle.orb_engine.specs.Recording.{Tail, Recording, spell_exchanges}
 
 pub data End : Type 0 where
   -- the bytes may go on
@@ -21,8 +16,6 @@ pub data End : Type 0 where
   Cut : (offset : ℕ) → End
   HeadLimit : (offset : ℕ) → End
   MediaFull : (offset : ℕ) → End
-  -- at a response that the rules built so far don't decide
-  NotBuilt : (offset : ℕ) → End
 
 abbrev pub if_ended : Bool → End → End
 if_ended true stop = stop
@@ -32,30 +25,22 @@ if_ended false stop = Open
 abbrev pub response_offset : (offset : ℕ) → Heads → ℕ
 response_offset offset h = offset + length h.request.bytes
 
--- a body that runs to the end of the input is whole there, and is to be decided
-abbrev pub end_of_body : (offset : ℕ) → Option Rule → End
-end_of_body offset None = NotBuilt offset
-end_of_body offset (Some rule) = Done
-
--- where a recording ends, by what stands after its whole exchanges at the offset
-abbrev pub stop_at : Settings → States → (offset : ℕ) → (ended : Bool) → Tail → End
-stop_at s table offset ended (cut.InRequestHead []) = if_ended ended Done
-stop_at s table offset ended (cut.InRequestHead (b ∷ head)) = if_ended ended (Cut offset)
-stop_at s table offset ended (cut.InResponseHead r head) = if_ended ended (Cut offset)
-stop_at s table offset ended (cut.InBody h sent body) =
-    if_ended ended (if is_to_end h.response.frame
-    then end_of_body (response_offset offset h) (window_rule_of (judged_by s table h) body)
-    else Cut offset)
-stop_at s table offset ended (cut.LongRequest head) = HeadLimit offset
-stop_at s table offset ended (cut.BadRequest head kind) = Bad kind offset
-stop_at s table offset ended (cut.FullTable r) = MediaFull offset
-stop_at s table offset ended (cut.LongResponse r head) = HeadLimit (offset + length r.bytes)
-stop_at s table offset ended (cut.BadResponse r head kind) = Bad kind (offset + length r.bytes)
-stop_at s table offset ended (cut.BadBody h sent body b) =
+-- where a recording ends, by what stands after its whole exchanges at the offset; a body that runs to the end of the
+-- input is whole there
+abbrev pub stop_at : (offset : ℕ) → (ended : Bool) → Tail → End
+stop_at offset ended (cut.InRequestHead []) = if_ended ended Done
+stop_at offset ended (cut.InRequestHead (b ∷ head)) = if_ended ended (Cut offset)
+stop_at offset ended (cut.InResponseHead r head) = if_ended ended (Cut offset)
+stop_at offset ended (cut.InBody h sent body) =
+    if_ended ended (if is_to_end h.response.frame then Done else Cut offset)
+stop_at offset ended (cut.LongRequest head) = HeadLimit offset
+stop_at offset ended (cut.BadRequest head kind) = Bad kind offset
+stop_at offset ended (cut.FullTable r) = MediaFull offset
+stop_at offset ended (cut.LongResponse r head) = HeadLimit (offset + length r.bytes)
+stop_at offset ended (cut.BadResponse r head kind) = Bad kind (offset + length r.bytes)
+stop_at offset ended (cut.BadBody h sent body b) =
     Bad BadChunk (response_offset offset h + (length h.response.bytes + length sent))
-stop_at s table offset ended (cut.Undecided h sent body) = NotBuilt (response_offset offset h)
 
 -- the end of a recording, of which no more comes where it has ended
-unfoldable pub stop_of : Settings → Recording → (ended : Bool) → End
-stop_of s r ended =
-    stop_at s (table_after_all map.empty r.exchanges) (length (spell_exchanges r.exchanges [])) ended r.tail
+unfoldable pub stop_of : Recording → (ended : Bool) → End
+stop_of r ended = stop_at (length (spell_exchanges r.exchanges [])) ended r.tail

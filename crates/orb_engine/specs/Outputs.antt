@@ -1,13 +1,13 @@
 -- What is written of a recording: by the job `Filter` the responses that are allowed and a reply in the place of
 -- each other, and by the job `Explain` a line for each whole exchange.
-use Rattle.std.specs.Prelude.{ℕ, ◌+◌, Bool, true, false, ◌&&◌, List, [], ◌∷◌, ◌++◌, length, Option, Some, None, if◌then◌else◌, codes, decimal}
+use Rattle.std.specs.Prelude.{ℕ, ◌+◌, Bool, true, false, ◌&&◌, List, [], ◌∷◌, ◌++◌, length, if◌then◌else◌, codes, decimal}
 use Rattle.std.specs.FinMap as map
 use Rattle.media_state.specs.Table.{States}
 use Rattle.media_state.specs.declared.states.MediaState.{MediaState}
 use Rattle.media_state.specs.States.{name_of as state_name}
 use Rattle.response_rules.specs.declared.rules.Rule.{Rule}
-use Rattle.response_rules.specs.Rules.{name_of, is_allowing, state_behind}
-use Rattle.response_rules.specs.Tables.{window_rule_of}
+use Rattle.response_rules.specs.Rules.{name_of, is_allowing, state_after_rule}
+use Rattle.response_rules.specs.Tables.{rule_of}
 use Rattle.body_filter.specs.Responses.{Response, output_so_far, whole_output}
 use Rattle.orb_engine.specs.declared.settings.Job.{Job}
 use Rattle.orb_engine.specs.declared.settings.Job.TheVariants.{Filter, Explain}
@@ -29,10 +29,9 @@ line_of number rule state length_ =
     ++ (32 ∷ (state_name state
     ++ (32 ∷ (decimal length_ ++ (10 ∷ [])))))))))
 
--- the same, where no rule need decide: no line then
-abbrev pub line_by : (number : ℕ) → Response → (length_ : ℕ) → Option Rule → List ℕ
-line_by number x length_ None = []
-line_by number x length_ (Some rule) = line_of number rule (state_behind x.head.state rule) length_
+-- the line of a response that the rule decides
+abbrev pub line_by : (number : ℕ) → Response → (length_ : ℕ) → Rule → List ℕ
+line_by number x length_ rule = line_of number rule (state_after_rule x.head.state rule) length_
 
 -- what is written when these bytes of a body have come
 unfoldable pub written_so_far : Job → Response → List ℕ → List ℕ
@@ -42,7 +41,7 @@ written_so_far Explain x body = []
 -- what is written of a whole exchange with that body and that number
 unfoldable pub written_whole : Job → (number : ℕ) → Response → List ℕ → List ℕ
 written_whole Filter number x body = whole_output x body
-written_whole Explain number x body = line_by number x (length body) (window_rule_of x.head body)
+written_whole Explain number x body = line_by number x (length body) (rule_of x.head body)
 
 -- what is written of whole exchanges, of which so many stand before
 abbrev pub written_exchanges : Settings → States → (before : ℕ) → List Exchange → List ℕ
@@ -65,7 +64,6 @@ written_tail s table before ended (cut.BadRequest head kind) = []
 written_tail s table before ended (cut.FullTable r) = []
 written_tail s table before ended (cut.LongResponse r head) = []
 written_tail s table before ended (cut.BadResponse r head kind) = []
-written_tail s table before ended (cut.Undecided h sent body) = []
 
 -- all that is written of a recording, of which no more comes where it has ended
 unfoldable pub output_of : Settings → Recording → (ended : Bool) → List ℕ

@@ -27,7 +27,7 @@ use Rattle.media_state.specs.Table.{admits}
 use Rattle.orb_engine.specs.Recording as cut
 use Rattle.orb_engine.specs.Recording.{Exchange, Tail, Recording, IsRecording, AreExchanges, is_open, spell_heads, spell_exchanges, table_after_all}
 use Rattle.orb_engine.specs.Ends as ends
-use Rattle.orb_engine.specs.Ends.{End, stop_of, response_offset}
+use Rattle.orb_engine.specs.Ends.{End, stop_of}
 use Rattle.orb_engine.specs.Outputs.{output_of, written_exchanges, written_so_far}
 use Rattle.orb_engine.specs.Counts.{rules_of_exchanges, rules_of, count_allowed, count_blocked}
 use Rattle.orb_engine.specs.Workers.{IsNewFor}
@@ -107,7 +107,6 @@ pub record Receives (incoming : Incoming) (e : Engine) (s : Settings) (c : Comin
   pub media : e.media ≡ admits (table_of c.exchanges) (id_of c.heads.request.asks)
   pub id : incoming.id ≡ id_of c.heads.request.asks
   pub to_end : incoming.to_end ≡ is_to_end c.heads.response.frame
-  pub offset : incoming.offset ≡ response_offset (length (spell_exchanges c.exchanges [])) c.heads
 
 -- it is in a body
 pub record AtBody (incoming : Incoming) (e : Engine) (s : Settings) (exchanges : List Exchange) (tail : Tail) : Type 0 where
@@ -134,7 +133,7 @@ pub record Reads (e : Engine) (s : Settings) (m given : List ℕ) : Type 0 where
   pub common : Common e s exchanges given
   pub stands : Stands e.state e s exchanges tail
 
--- it is after the heads of an exchange whose body comes; whether more of it may come isn't told yet
+-- it is after the heads of an exchange whose body comes; whether that is whole isn't told yet
 pub record Fills (incoming : Incoming) (e : Engine) (s : Settings) (m given : List ℕ) : Type 0 where
   pub coming : Coming
   pub spells : m ≡ spell_coming coming
@@ -153,7 +152,6 @@ IsStop (outcome.Bad kind offset) stop = stop ≡ ends.Bad kind offset
 IsStop (outcome.Cut offset) stop = stop ≡ ends.Cut offset
 IsStop (outcome.HeadLimit offset) stop = stop ≡ ends.HeadLimit offset
 IsStop (outcome.MediaFull offset) stop = stop ≡ ends.MediaFull offset
-IsStop (outcome.NotBuilt offset) stop = stop ≡ ends.NotBuilt offset
 IsStop outcome.Endless stop = ⊥
 IsStop outcome.ReadFault stop = ⊥
 IsStop outcome.WriteFault stop = ⊥
@@ -162,7 +160,7 @@ IsStop outcome.WriteFault stop = ⊥
 pub record Stops (o : EngineOutcome) (e : Engine) (s : Settings) (m : List ℕ) (ended : Bool) (given : List ℕ) : Type 0 where
   pub recording : Recording
   pub cut : IsRecording s m recording
-  pub stop : IsStop o (stop_of s recording ended)
+  pub stop : IsStop o (stop_of recording ended)
   pub gave : given ++ gathered_by e.writer ≡ output_of s recording ended
   pub counts : e.progress.counts ≡ counts_of (rules_of s recording ended)
   pub told : IsTold e.progress.told s recording.exchanges given
@@ -284,14 +282,13 @@ pub record Passes (incoming : Incoming) (e : Engine) (s : Settings) (m piece giv
   pub media : e.media ≡ admits (table_of coming.exchanges) (id_of coming.heads.request.asks)
   pub id : incoming.id ≡ id_of coming.heads.request.asks
   pub to_end : incoming.to_end ≡ is_to_end coming.heads.response.frame
-  pub offset : incoming.offset ≡ response_offset (length (spell_exchanges coming.exchanges [])) coming.heads
 
 abbrev pub IsInBody : State → Type 0
 IsInBody (state.Body incoming) = Unit {0}
 IsInBody t = ⊥
 
 abbrev pub with_unframer : Incoming → Unframer → Incoming
-with_unframer i u = record { unframer = u; to_end = i.to_end; id = i.id; offset = i.offset }
+with_unframer i u = record { unframer = u; to_end = i.to_end; id = i.id }
 
 -- what a body's unframer took of a piece; all else of the body is as it was
 pub record Unframes (i : Incoming) (after : State) (piece : List ℕ) (t : Taken) : Type 0 where

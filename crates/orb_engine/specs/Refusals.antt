@@ -8,6 +8,6 @@ use Rattle.orb_engine.specs.Counts.{rules_of}
 
 -- the second, whether or not its input has ended, is answered as the first where more may come
 pub record IsAnsweredAs (s : Settings) (a b : Recording) : Type 0 where
-  pub stop : (ended : Bool) → stop_of s b ended ≡ stop_of s a false
+  pub stop : (ended : Bool) → stop_of b ended ≡ stop_of a false
   pub output : (ended : Bool) → output_of s b ended ≡ output_of s a false
   pub rules : (ended : Bool) → rules_of s b ended ≡ rules_of s a false

@@ -65,7 +65,7 @@ pub record HasCountedPrefix (e : Engine) (s : Settings) (exchanges : List Exchan
 pub record Ends (e : Engine) (s : Settings) (m : List ℕ) (ended : Bool) (P : End → Type 0) (given : List ℕ) : Type 0 where
   pub recording : Recording
   pub cut : IsRecording s m recording
-  pub stop : P (stop_of s recording ended)
+  pub stop : P (stop_of recording ended)
   pub gave : given ≡ output_of s recording ended
   pub counted : HasCounted e s recording ended
 

@@ -1,7 +1,6 @@
 -- What is written of one response, and gathered.
-use Rattle.std.specs.Prelude.{◌≡◌, ℕ, true, List, ◌++◌, length, is_some, Result, Ok, Err}
+use Rattle.std.specs.Prelude.{◌≡◌, ℕ, List, ◌++◌, length, Result, Ok, Err}
 use Rattle.orb_io.specs.Told.{IsPrefix}
-use Rattle.response_rules.specs.Tables.{window_rule_of}
 use Rattle.body_filter.specs.Responses.{Response}
 use Rattle.orb_engine.specs.declared.settings.Settings.{Settings}
 use Rattle.orb_engine.specs.declared.writer.Writer.{Writer}
@@ -38,14 +37,6 @@ pub record CanGoOn (w : Writer) : Type 0 where
   pub x : Response
   pub m : List ℕ
   pub reads : WriterReads w s x m
-
--- one that a rule decides, if its body ends here
-pub record CanClose (w : Writer) : Type 0 where
-  pub s : Settings
-  pub x : Response
-  pub m : List ℕ
-  pub reads : WriterReads w s x m
-  pub decided : is_some (window_rule_of x.head m) ≡ true
 
 -- how long the body of the response is that it has read
 abbrev pub body_of : Writer → ℕ

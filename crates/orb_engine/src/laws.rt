@@ -20,7 +20,7 @@ pub fn one_recording()
         → IsRecording s m a → IsRecording s m b → a.exchanges ≡ b.exchanges }
     ensures stop { (s : Settings) (m : List ℕ) (a b : Recording)
         → IsRecording s m a → IsRecording s m b
-        → (ended : Bool) → stop_of s a ended ≡ stop_of s b ended }
+        → (ended : Bool) → stop_of a ended ≡ stop_of b ended }
     ensures output { (s : Settings) (m : List ℕ) (a b : Recording)
         → IsRecording s m a → IsRecording s m b
         → (ended : Bool) → output_of s a ended ≡ output_of s b ended }
@@ -32,13 +32,13 @@ pub fn one_recording()
 /// Law: bytes that end in a refusal end in it whatever follows them, and what is written of them stays. Those
 /// that end in none are open: they may go on to a further exchange.
 pub fn refusal_stays()
-    ensures opens { (s : Settings) (a : Recording)
-        → (stop_of s a false ≡ Open) ↔ (is_open a.tail ≡ true) }
+    ensures opens { (a : Recording)
+        → (stop_of a false ≡ Open) ↔ (is_open a.tail ≡ true) }
     ensures stands { (s : Settings) (m more : List ℕ) (a : Recording)
-        → IsRecording s m a → stop_of s a false ≢ Open
+        → IsRecording s m a → stop_of a false ≢ Open
         → (b : Recording) × IsRecording s (m ++ more) b × IsAnsweredAs s a b }
     ensures alone { (s : Settings) (m more : List ℕ) (a b : Recording)
-        → IsRecording s m a → stop_of s a false ≢ Open
+        → IsRecording s m a → stop_of a false ≢ Open
         → IsRecording s (m ++ more) b → IsAnsweredAs s a b }
 {}
 
@@ -66,7 +66,7 @@ pub fn output_grows()
 pub fn completeness()
     ensures fronts { (s : Settings) (read rest : List ℕ) (r first : Recording) (ended : Bool)
         → IsWholeRecording s (read ++ rest) r → IsRecording s read first
-        → (ended ≡ true → rest ≡ []) → stop_of s first ended ≢ Open
+        → (ended ≡ true → rest ≡ []) → stop_of first ended ≢ Open
         → IsAll s r first ended rest }
     ensures runs { (o : EngineOutcome) (e : Engine) (s : Settings) (bytes : List ℕ) (r : Recording)
         (left' : Option (List ℕ)) (given : List ℕ) (source source' sink sink' : ℕ)

@@ -14,8 +14,6 @@ pub enum EngineOutcome {
     HeadLimit { place: u64 },
     /// The request at this place has a new media id, and there is no room for it.
     MediaFull { place: u64 },
-    /// The response at this place is one that the rules built so far don't decide.
-    NotBuilt { place: u64 },
     /// The input goes on past the last byte that one run takes.
     Endless,
     /// The source failed.

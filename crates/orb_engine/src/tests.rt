@@ -6,6 +6,7 @@ ghost use Rattle.orb_io.specs.Told.{told_bytes};
 ghost use Rattle.orb_engine.specs.Runs.{taken_by, CanFeed};
 
 use crate::{Engine, EngineOutcome, Job, Settings};
+use orb_bytes::decimal;
 use orb_io::{Duplex, Failed, MemoryLink, MemorySink, MemorySource, Sink, Source};
 use response_rules::Policy;
 use std::alloc::Global;
@@ -38,12 +39,12 @@ const GIF: &[u8] = b"HTTP/1.1 200 OK\r\nContent-Length: 2097158\r\n\r\n";
 const JPEG: &[u8] =
     b"HTTP/1.1 200 OK\r\nContent-Type: image/jpeg\r\nTransfer-Encoding: chunked\r\n\r\n";
 
-fn settings(job: Job) -> Settings
+fn settings(job: Job, policy: Policy) -> Settings
     ensures { result.limit ≡ 1024 }
 {
     Settings {
         job,
-        policy: Policy::Orb,
+        policy,
         limit: 1024,
     }
 }
@@ -127,7 +128,7 @@ fn exchanges_are_filtered_and_explained_in_every_cutting(rt: HostRuntime) -> Res
         let recording = joined(alloc, parts)?;
         let want = joined(alloc, writes)?;
         assert!(rt; recording.len() <= 1024);
-        let mut engine = Engine::open(alloc, settings(job))?;
+        let mut engine = Engine::open(alloc, settings(job, Policy::Orb))?;
         for size in [1, 7, 1024] {
             let mut sink = MemorySink::open(alloc, 1024, Vec::new(alloc))?;
             let outcome = pass(&mut engine, &recording, size, &mut sink);
@@ -139,6 +140,149 @@ fn exchanges_are_filtered_and_explained_in_every_cutting(rt: HostRuntime) -> Res
         let mut sink = MemorySink::open(alloc, 1024, Vec::new(alloc))?;
         assert_eq!(rt; engine.run(&mut source, &mut sink), owed, "{job:?}");
         assert_eq!(rt; sink.bytes(), want.as_slice(), "{job:?}");
+    }
+    Ok(())
+}
+
+const UNKNOWN: &[u8] = b"Content-Type: application/octet-stream\r\n";
+
+const PAGE: &[u8] = b"Content-Type: text/html\r\n";
+
+const TEXT: &[u8] = b"Content-Type: text/plain\r\n";
+
+/// A response that is judged: the rules, the fields but for the length, the body as a text that stands so many times and another
+/// after it, and the line.
+type Judged = (
+    Policy,
+    &'static [u8],
+    &'static [u8],
+    usize,
+    &'static [u8],
+    &'static [u8],
+);
+
+const JUDGED: &[Judged] = &[
+    (
+        Policy::Orb,
+        UNKNOWN,
+        b"",
+        0,
+        b"{\"a\":1}",
+        b"1 block not-script na 7\n",
+    ),
+    (
+        Policy::Orb,
+        UNKNOWN,
+        b"",
+        0,
+        b"{ 1\n2 } 3",
+        b"1 allow script na 9\n",
+    ),
+    (
+        Policy::Orb,
+        UNKNOWN,
+        b"x;",
+        512,
+        b"",
+        b"1 allow script na 1024\n",
+    ),
+    (
+        Policy::Orb,
+        UNKNOWN,
+        b"x;",
+        512,
+        b" ",
+        b"1 block body-limit na 1025\n",
+    ),
+    (
+        Policy::Corb,
+        PAGE,
+        b"",
+        0,
+        b"<!-- x --> <HTML>",
+        b"1 block corb-html na 17\n",
+    ),
+    (
+        Policy::Corb,
+        TEXT,
+        b"",
+        0,
+        b"{\"a\" : 1}",
+        b"1 block corb-json na 9\n",
+    ),
+    (
+        Policy::Corb,
+        b"",
+        b"",
+        0,
+        b")]}'",
+        b"1 block corb-breaker na 4\n",
+    ),
+    (
+        Policy::Corb,
+        PAGE,
+        b"",
+        0,
+        b"hello",
+        b"1 allow corb-unconfirmed na 5\n",
+    ),
+];
+
+/// The text so many times.
+fn repeated(alloc: Global, text: &[u8], times: usize) -> Result<Vec<u8>, Fail> {
+    let mut all = Vec::new(alloc);
+    for _ in 0..times {
+        all.extend_from_slice(text)?;
+    }
+    Ok(all)
+}
+
+/// What is explained of a response with such fields and such a body, in pieces of that size.
+fn explain(
+    alloc: Global,
+    policy: Policy,
+    fields: &[u8],
+    body: &[u8],
+    piece: usize,
+) -> Result<(EngineOutcome, MemorySink), Fail>
+    requires { 1 ≤ piece }
+{
+    let size = decimal(body.len() as u64);
+    let recording = joined(
+        alloc,
+        &[
+            REQUEST,
+            b"HTTP/1.1 200 OK\r\n",
+            fields,
+            b"Content-Length: ",
+            size.as_slice(),
+            b"\r\n\r\n",
+            body,
+        ],
+    )?;
+    let mut engine = Engine::open(alloc, settings(Job::Explain, policy))?;
+    let mut source = MemorySource::new(recording, piece, Vec::new(alloc));
+    let mut sink = MemorySink::open(alloc, 64, Vec::new(alloc))?;
+    let outcome = engine.run(&mut source, &mut sink);
+    Ok((outcome, sink))
+}
+
+/// Judges the response in pieces of that size.
+fn judge(rt: &impl Abort, alloc: Global, row: &Judged, piece: usize) -> Result<(), Fail> {
+    let (policy, fields, text, times, rest, line) = *row;
+    let first = repeated(alloc, text, times)?;
+    let body = joined(alloc, &[&first, rest])?;
+    let (outcome, sink) = explain(alloc, policy, fields, &body, piece.max(1))?;
+    assert_eq!(rt; outcome, EngineOutcome::Done);
+    assert_eq!(rt; sink.bytes(), line, "in pieces of {piece}");
+    Ok(())
+}
+
+#[test]
+fn responses_are_judged_by_the_policy_up_to_the_limit(rt: HostRuntime) -> Result<(), Fail> {
+    for row in JUDGED {
+        judge(&rt, rt.alloc(), row, 1)?;
+        judge(&rt, rt.alloc(), row, 4096)?;
     }
     Ok(())
 }
@@ -242,7 +386,7 @@ fn run_watched(
         read: 0,
         exact: true,
     };
-    let mut engine = Engine::open(alloc, settings(job))?;
+    let mut engine = Engine::open(alloc, settings(job, Policy::Orb))?;
     let outcome = engine.run_link(&mut link);
     Ok((outcome, link))
 }
@@ -256,6 +400,8 @@ fn in_chunks_of_one(alloc: Global, body: &[u8]) -> Result<Vec<u8>, Fail> {
     recording.extend_from_slice(b"0\r\n\r\n")?;
     Ok(recording)
 }
+
+const LONG_IMAGE_LINE: &[u8] = b"1 allow image na 2097158\n";
 
 /// What is owed of a long image at each pull: from the window on its bytes where it is filtered, and its line
 /// after its last byte where it is explained.
@@ -278,6 +424,26 @@ const LONG_IMAGE: [(Job, &[Owed]); 2] = [
     ),
 ];
 
+/// Runs the job with pulls of at most so many bytes, at each of which what is owed was put.
+fn watch(
+    rt: &impl Abort,
+    alloc: Global,
+    job: Job,
+    recording: Vec<u8>,
+    piece: usize,
+    owed: &'static [Owed],
+    want: &[u8],
+) -> Result<(), Fail> {
+    let (outcome, link) = run_watched(alloc, job, recording, piece.max(1), owed)?;
+    assert_eq!(rt; outcome, EngineOutcome::Done);
+    assert!(rt; link.exact, "{job:?} in pieces of {piece}");
+    assert!(rt;
+        link.link.sink().bytes() == want,
+        "{job:?} in pieces of {piece}"
+    );
+    Ok(())
+}
+
 /// Runs the job over a long image, with pulls of at most so many bytes.
 fn watch_long_image(
     rt: &impl Abort,
@@ -289,18 +455,10 @@ fn watch_long_image(
     let zeros = vec![in alloc; 0u8; 2_097_152]?;
     let response = joined(alloc, &[GIF, b"GIF89a", &zeros])?;
     let recording = joined(alloc, &[REQUEST, &response])?;
-    let (outcome, link) = run_watched(alloc, job, recording, piece.max(1), owed)?;
-    let want = match job {
-        Job::Filter => response.as_slice(),
-        Job::Explain => b"1 allow image na 2097158\n",
-    };
-    assert_eq!(rt; outcome, EngineOutcome::Done);
-    assert!(rt; link.exact, "{job:?} in pieces of {piece}");
-    assert!(rt;
-        link.link.sink().bytes() == want,
-        "{job:?} in pieces of {piece}"
-    );
-    Ok(())
+    match job {
+        Job::Filter => watch(rt, alloc, job, recording, piece, owed, &response),
+        Job::Explain => watch(rt, alloc, job, recording, piece, owed, LONG_IMAGE_LINE),
+    }
 }
 
 #[test]
@@ -349,12 +507,92 @@ fn chunks_of_one_byte_go_out_in_chunks_of_1024(rt: HostRuntime) -> Result<(), Fa
         ],
     )?;
     for piece in [1, 7, 100, 4_194_304] {
-        assert!(rt; 1 <= piece);
         let recording = in_chunks_of_one(alloc, &body)?;
-        let (outcome, link) = run_watched(alloc, Job::Filter, recording, piece, OWED)?;
-        assert_eq!(rt; outcome, EngineOutcome::Done);
-        assert!(rt; link.exact, "{piece}");
-        assert_eq!(rt; link.link.sink().bytes(), want.as_slice(), "{piece}");
+        watch(&rt, alloc, Job::Filter, recording, piece, OWED, &want)?;
+    }
+    Ok(())
+}
+
+/// A response that is filtered: its head, its body as a text and another after it so many times, what is written where
+/// that isn't the response itself, and what is owed at each pull.
+type Watched = (
+    &'static [u8],
+    &'static [u8],
+    &'static [u8],
+    usize,
+    Option<&'static [u8]>,
+    &'static [Owed],
+);
+
+/// An image goes out from its window on. Of a coded body nothing goes out, and the reply after its last byte. A body that is
+/// read as text waits for its end, and longer than the limit for its reply.
+const WATCHED: &[Watched] = &[
+    (
+        b"HTTP/1.1 200 OK\r\nContent-Length: 20006\r\n\r\n",
+        b"GIF89a",
+        b"\0",
+        20_000,
+        None,
+        &[Owed {
+            read: 1109,
+            put: 1066,
+            flows: true,
+        }],
+    ),
+    (
+        b"HTTP/1.1 200 OK\r\nContent-Encoding: gzip\r\nContent-Length: 20006\r\n\r\n",
+        b"GIF89a",
+        b"\0",
+        20_000,
+        Some(b"HTTP/1.1 403 Forbidden\r\nContent-Length: 0\r\nOrb-Rule: coded\r\n\r\n"),
+        &[Owed {
+            read: 20_115,
+            put: 62,
+            flows: false,
+        }],
+    ),
+    (
+        b"HTTP/1.1 200 OK\r\nContent-Type: application/octet-stream\r\nContent-Length: 1024\r\n\r\n",
+        b"",
+        b"x;",
+        512,
+        None,
+        &[Owed {
+            read: 1148,
+            put: 1105,
+            flows: false,
+        }],
+    ),
+    (
+        b"HTTP/1.1 200 OK\r\nContent-Type: application/octet-stream\r\nContent-Length: 1026\r\n\r\n",
+        b"",
+        b"x;",
+        513,
+        Some(b"HTTP/1.1 403 Forbidden\r\nContent-Length: 0\r\nOrb-Rule: body-limit\r\n\r\n"),
+        &[Owed {
+            read: 1150,
+            put: 67,
+            flows: false,
+        }],
+    ),
+];
+
+/// Filters the response, with pulls of at most 100 bytes.
+fn filter_watched(rt: &impl Abort, alloc: Global, row: &Watched) -> Result<(), Fail> {
+    let (head, first, text, times, reply, owed) = *row;
+    let rest = repeated(alloc, text, times)?;
+    let response = joined(alloc, &[head, first, &rest])?;
+    let recording = joined(alloc, &[REQUEST, &response])?;
+    match reply {
+        Some(reply) => watch(rt, alloc, Job::Filter, recording, 100, owed, reply),
+        None => watch(rt, alloc, Job::Filter, recording, 100, owed, &response),
+    }
+}
+
+#[test]
+fn what_is_owed_was_put_at_each_pull(rt: HostRuntime) -> Result<(), Fail> {
+    for row in WATCHED {
+        filter_watched(&rt, rt.alloc(), row)?;
     }
     Ok(())
 }

@@ -1,9 +1,8 @@
 //! The work on one response: to filter it, or to tell its verdict.
-ghost use Rattle.std.specs.Prelude.{◌≡◌, ◌≤◌, ◌++◌, ℕ, List, [], ◌∷◌, length, is_some, true};
+ghost use Rattle.std.specs.Prelude.{◌≡◌, ◌≤◌, ◌++◌, ℕ, List, [], ◌∷◌, length};
 ghost use Rattle.orb_io.specs.Told.{Delivers};
 ghost use Rattle.orb_io.specs.Calls.{Calls};
 ghost use Rattle.response_rules.specs.Heads.{Head};
-ghost use Rattle.response_rules.specs.Tables.{window_rule_of};
 ghost use Rattle.response_rules.specs.Reads.{HasRead as DeciderHasRead, IsVerdict};
 ghost use Rattle.body_filter.specs.Responses.{Response, response_of};
 
@@ -11,7 +10,7 @@ use crate::lines::line;
 use crate::settings::{Job, Settings};
 use body_filter::{Filter, WriteFault};
 use orb_io::{NoMemory, Sink};
-use response_rules::{Decider, Rule, Verdict};
+use response_rules::{Decider, Verdict};
 use std::alloc::Global;
 
 /// What works on responses, one at a time.
@@ -103,8 +102,7 @@ impl Worker {
         size: u64,
         sink: &mut O,
     ) -> Result<Verdict, WriteFault>
-        requires { (s : Settings) × (x : Response) × (m : List ℕ) × Works self.old s x m
-            × (is_some (window_rule_of x.head m) ≡ true) }
+        requires { (s : Settings) × (x : Response) × (m : List ℕ) × Works self.old s x m }
         ensures delivers { (s : Settings) (x : Response) (m : List ℕ) → Works self.old s x m → size ≡ length m
             → Delivers result (O.told sink.old) (O.told sink.new)
             (written_so_far s.job x m) (written_whole s.job number x m) (λ v. IsVerdict x.head m v) }
@@ -121,19 +119,6 @@ impl Worker {
                 }
             }
             Worker::Explains => unreachable!(),
-        }
-    }
-
-    /// The rule of the head or the window that decides if the body ends here; `None` exactly where none
-    /// holds.
-    pub(crate) fn window_rule(&self) -> Option<Rule>
-        ensures { (s : Settings) (x : Response) (m : List ℕ) → Works self.now s x m
-            → result ≡ window_rule_of x.head m }
-    {
-        match self {
-            Worker::Filters(filter) => filter.window_rule(),
-            Worker::Explaining(decider) => decider.window_rule(),
-            Worker::Explains => None,
         }
     }
 }

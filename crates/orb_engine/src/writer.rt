@@ -3,14 +3,12 @@
 //! What a response writes goes to the outbox while all that it can write fits there, and else to the sink
 //! itself, after what was gathered: so short exchanges go out many in one push, and a long body goes
 //! straight through.
-ghost use Rattle.std.specs.Prelude.{◌≡◌, ◌≤◌, ◌+◌, ◌*◌, ◌^◌, ◌++◌, ℕ, List, [], length, is_some, true};
+ghost use Rattle.std.specs.Prelude.{◌≡◌, ◌≤◌, ◌+◌, ◌*◌, ◌^◌, ◌++◌, ℕ, List, [], length};
 ghost use Rattle.orb_io.specs.Told.{Gives, Delivers};
 ghost use Rattle.orb_io.specs.Calls.{Calls};
 ghost use Rattle.orb_engine.specs.Workers.{IsWorkerFor};
 ghost use Rattle.orb_engine.specs.WorkerLaws.{IsWorkerFor-prop};
 ghost use Rattle.response_rules.specs.Heads.{Head};
-ghost use Rattle.response_rules.specs.Tables.{window_rule_of};
-ghost use Rattle.response_rules.specs.Settled.{is_in_text};
 ghost use Rattle.response_rules.specs.Reads.{IsVerdict};
 ghost use Rattle.body_filter.specs.Responses.{Response, response_of};
 
@@ -18,11 +16,8 @@ use crate::settings::Settings;
 use crate::worker::Worker;
 use body_filter::WriteFault;
 use orb_io::{Failed, NoMemory, Outbox, Sink, push_nonempty};
-use response_rules::{Decider, Rule, Verdict};
+use response_rules::{Decider, Verdict};
 use std::alloc::Global;
-
-/// How many bytes of a body are looked at for its type.
-const WINDOW: u64 = 1024;
 
 /// Works on responses, one at a time, and gathers what they write.
 #[derive(Drop)]
@@ -44,7 +39,7 @@ impl Writer {
     ghost use Rattle.orb_io.specs.Outboxes.{empty_outbox};
     ghost use Rattle.orb_engine.specs.Outputs.{written_so_far, written_whole};
     ghost use Rattle.orb_engine.specs.Workers.{IsNewFor};
-    ghost use Rattle.orb_engine.specs.Writing.{IsWriterFor, WriterReads, CanGoOn, CanClose, Passes, IsSameBut, box_of, gathered_by, body_of};
+    ghost use Rattle.orb_engine.specs.Writing.{IsWriterFor, WriterReads, CanGoOn, Passes, IsSameBut, box_of, gathered_by, body_of};
 
     /// One whose worker does the job of the settings.
     pub(crate) fn open(alloc: Global, settings: Settings) -> Result<Writer, NoMemory>
@@ -150,7 +145,7 @@ impl Writer {
         number: u64,
         output: &mut O,
     ) -> Result<Verdict, WriteFault>
-        requires { CanClose self.old }
+        requires { CanGoOn self.old }
         ensures passes { (s : Settings) (x : Response) (m given before : List ℕ) → WriterReads self.old s x m
             → given ++ gathered_by self.old ≡ before ++ written_so_far s.job x m
             → Gives (O.told output.old) (O.told output.new) given (Passes result self.new
@@ -169,29 +164,6 @@ impl Writer {
                 Err(fault) => Err(fault),
             }
         }
-    }
-
-    /// Whether its body fills the window, and no rule of the head or the window decides it.
-    pub(crate) fn is_undecided(&self) -> bool
-        ensures { (s : Settings) (x : Response) (m : List ℕ) → WriterReads self.now s x m
-            → result ≡ is_in_text x.head m }
-    {
-        if self.body < WINDOW {
-            return false;
-        }
-        match self.worker.window_rule() {
-            Some(_) => false,
-            None => true,
-        }
-    }
-
-    /// The rule of the head or the window that decides if the body ends here; `None` exactly where none
-    /// holds.
-    pub(crate) fn window_rule(&self) -> Option<Rule>
-        ensures { (s : Settings) (x : Response) (m : List ℕ) → WriterReads self.now s x m
-            → result ≡ window_rule_of x.head m }
-    {
-        self.worker.window_rule()
     }
 
     /// More bytes than the response and what stands in its place can have.

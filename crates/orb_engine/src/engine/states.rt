@@ -64,8 +64,6 @@ pub(crate) struct Incoming {
     to_end: bool,
     // The id of the media resource.
     id: Option<u64>,
-    // Where the response begins.
-    offset: u64,
 }
 
 impl State {
@@ -86,13 +84,13 @@ impl State {
 }
 
 impl Engine {
-    ghost use Rattle.std.specs.Prelude.{◌≡◌, ◌≤◌, ◌<◌, ◌+◌, ◌^◌, ◌++◌, ℕ, List, length, is_some, true, IfOk, OnOk};
+    ghost use Rattle.std.specs.Prelude.{◌≡◌, ◌≤◌, ◌<◌, ◌+◌, ◌^◌, ◌++◌, ℕ, List, length, true, IfOk, OnOk};
     ghost use Rattle.orb_io.specs.Told.{Gives};
     ghost use Rattle.http_exchange.specs.HeadTexts.{IsHeadText};
     ghost use Rattle.orb_engine.specs.declared.settings.Settings.{Settings};
     ghost use Rattle.orb_engine.specs.Reads.{Reads, Halts, HaltCause, Steps, Settles, Causes, HasRequest, HasResponse, HasHead, HasReadHeads, FillsAt, Coming, IsInHead, IsInBody, head_offset_of};
     ghost use Rattle.orb_engine.specs.Steps.{Meets, Goes};
-    ghost use Rattle.orb_engine.specs.Closing.{IsClosing, Closes, ClosesDecided, coming_rule};
+    ghost use Rattle.orb_engine.specs.Closing.{IsClosing, Closes};
     ghost use Rattle.orb_engine.specs.Runs.{settings_of};
 
     /// Takes the first bytes of a piece, by the state.
@@ -263,7 +261,6 @@ impl Engine {
                     unframer: Unframer::new(frame),
                     to_end: is_to_end(frame),
                     id: id_of(&asked.asks),
-                    offset: asked.offset,
                 });
                 self.settle_body(output)
             }
@@ -299,7 +296,7 @@ impl Engine {
         }
     }
 
-    /// Closes the exchange where its body is whole, and stops where nothing that is built decides it.
+    /// Closes the exchange where its body is whole.
     fn settle_body<O: Sink>(&mut self, output: &mut O) -> Result<(), EngineOutcome>
         requires can { Meets (FillsAt self.old.state self.old) }
         requires few { self.old.progress.taken ≤ 2 ^ 62 }
@@ -310,51 +307,19 @@ impl Engine {
         let State::Body(incoming) = &self.state else {
             unreachable!()
         };
-        let offset = incoming.offset;
-        if self.writer.is_undecided() {
-            return Err(EngineOutcome::NotBuilt { place: offset });
-        }
         if !incoming.unframer.is_whole() {
             return Ok(());
         }
         let id = incoming.id;
-        self.close(id, offset, output)
+        self.close(id, output)
     }
 
-    /// Ends the exchange whose body has come whole: the id of its media resource, and where its response begins.
-    fn close<O: Sink>(
-        &mut self,
-        id: Option<u64>,
-        offset: u64,
-        output: &mut O,
-    ) -> Result<(), EngineOutcome>
+    /// Ends the exchange whose body has come whole, by the id of its media resource.
+    fn close<O: Sink>(&mut self, id: Option<u64>, output: &mut O) -> Result<(), EngineOutcome>
         requires can { (s : Settings) × (c : Coming) × (given : List ℕ) × IsClosing self.old s c id given }
         requires few { self.old.progress.counts.allowed + self.old.progress.counts.blocked < 2 ^ 62 }
         ensures closes { (s : Settings) (c : Coming) (given : List ℕ) → IsClosing self.old s c id given
-            → Gives (O.told output.old) (O.told output.new) given (Closes result offset self.new s c) }
-        ensures causes { Causes result (O.faults output.old) (O.faults output.new) }
-        ensures keeps { O.kept output.old output.new }
-        ensures taken { self.new.progress.taken ≡ self.old.progress.taken }
-        ensures settings { self.new.writer.settings ≡ self.old.writer.settings }
-    {
-        match self.writer.window_rule() {
-            Some(_) => self.close_decided(id, output),
-            None => Err(EngineOutcome::NotBuilt { place: offset }),
-        }
-    }
-
-    /// Ends an exchange that a rule decides.
-    fn close_decided<O: Sink>(
-        &mut self,
-        id: Option<u64>,
-        output: &mut O,
-    ) -> Result<(), EngineOutcome>
-        requires can { (s : Settings) × (c : Coming) × (given : List ℕ) × IsClosing self.old s c id given
-            × (is_some (coming_rule s c) ≡ true) }
-        requires few { self.old.progress.counts.allowed + self.old.progress.counts.blocked < 2 ^ 62 }
-        ensures closes { (s : Settings) (c : Coming) (given : List ℕ) → IsClosing self.old s c id given
-            → is_some (coming_rule s c) ≡ true
-            → Gives (O.told output.old) (O.told output.new) given (ClosesDecided result self.new s c) }
+            → Gives (O.told output.old) (O.told output.new) given (Closes result self.new s c) }
         ensures causes { Causes result (O.faults output.old) (O.faults output.new) }
         ensures keeps { O.kept output.old output.new }
         ensures taken { self.new.progress.taken ≡ self.old.progress.taken }
@@ -399,8 +364,8 @@ impl Engine {
                 if !incoming.to_end {
                     return cut;
                 }
-                let (id, offset) = (incoming.id, incoming.offset);
-                match self.close(id, offset, output) {
+                let id = incoming.id;
+                match self.close(id, output) {
                     Ok(()) => EngineOutcome::Done,
                     Err(stop) => stop,
                 }

@@ -2,7 +2,7 @@ use Rattle.std.proofs.Common.{◌≡◌, ℕ, List, ◌++◌, Option, None, subs
 use Rattle.orb_engine.specs.declared.settings.Settings.{Settings}
 use Rattle.orb_engine.specs.declared.engine.Engine.{Engine}
 use Rattle.orb_engine.specs.declared.outcome.EngineOutcome.{EngineOutcome}
-use Rattle.orb_engine.specs.Runs.{HasRead, CanFeed, FeedAnswers}
+use Rattle.orb_engine.specs.Runs.{CanFeed, FeedAnswers}
 use Rattle.orb_engine.proofs.tests.feed_in_pieces.Goals as goal
 
 goes_on : (r : Option EngineOutcome) (e : Engine) (s : Settings) (m given : List ℕ) → r ≡ None → FeedAnswers r e s m given → CanFeed e

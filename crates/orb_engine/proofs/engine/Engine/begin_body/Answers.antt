@@ -21,7 +21,7 @@ settle_body-requires-clause-can g c =
       given ++ passed.more,
       begun-fills _ c.args.asked read c.args.self.now _ s m given passed.more q _
           (record { media = refl; offset = refl; taken = refl; counts = refl; told = refl; settings = c.in-Ok.ensures.settings })
-          x passed.holds.0 passed.holds.1 c.new.ensures c.is_to_end.ensures c.id_of.ensures refl,
+          x passed.holds.0 passed.holds.1 c.new.ensures c.is_to_end.ensures c.id_of.ensures,
     )
 
 pub returns-in-Ok-clause-goes : goal.returns-in-Ok-clause-goes
@@ -35,7 +35,7 @@ returns-in-Ok-clause-goes g c = record {
       (λ more passed. c.settle_body.ensures.goes.gives s m (given ++ more)
       (begun-fills _ c.args.asked read c.args.self.now _ s m given more q _
       (record { media = refl; offset = refl; taken = refl; counts = refl; told = refl; settings = c.in-Ok.ensures.settings })
-      x passed.0 passed.1 c.new.ensures c.is_to_end.ensures c.id_of.ensures refl));
+      x passed.0 passed.1 c.new.ensures c.is_to_end.ensures c.id_of.ensures));
   causes = Causes-after c.settle_body.result _ _ _ c.in-Ok.ensures.calls.cause c.settle_body.ensures.goes.causes;
   keeps = g.met.O.Sink.kept_transitive _ _ _ c.in-Ok.ensures.calls.keeps c.settle_body.ensures.goes.keeps;
 }

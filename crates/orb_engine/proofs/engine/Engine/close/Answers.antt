@@ -1,25 +1,51 @@
-use Rattle.std.proofs.Common.{◌++◌, refl, sym, ◌∙◌}
-use Rattle.orb_io.proofs.GivesLemmas.{Gives-none, Gives-weaker}
-use Rattle.orb_engine.proofs.ClosingLemmas.{as_closes, some-of}
+use Rattle.std.proofs.Common.{ℕ, ◌++◌, refl, sym, ap, subst, ◌∙◌}
+use Rattle.std.specs.FinMap as map
+use Rattle.orb_io.specs.Told.{IsPrefix}
+use Rattle.orb_io.proofs.GivesLemmas.{Gives-weaker}
+use Rattle.response_rules.specs.declared.rules.Rule.{Rule}
+use Rattle.response_rules.specs.Rules.{is_allowing}
+use Rattle.orb_engine.specs.Heads.{id_of}
+use Rattle.orb_engine.specs.Outputs.{written_exchanges, written_whole}
+use Rattle.orb_engine.specs.Counts.{rules_of_exchanges}
+use Rattle.orb_engine.specs.Reads.{table_of, counts_of, coming_response}
+use Rattle.orb_engine.specs.declared.progress.Progress.{Progress}
+use Rattle.orb_engine.specs.Progress.{count_with}
+use Rattle.orb_engine.specs.Closing.{coming_rule}
+use Rattle.orb_engine.proofs.CutLemmas.{counts-snoc}
+use Rattle.orb_engine.proofs.ClosingLemmas.{kept-admitted, stored-keeps, number-is, told-more}
 use Rattle.orb_engine.proofs.engine.Engine.close.Goals as goal
 
-pub close_decided-requires-clause-can : goal.close_decided-requires-clause-can
-close_decided-requires-clause-can g c =
+pub leave-requires : goal.leave-requires
+leave-requires g c =
     let (s, x, given, k) = c.requires.can in
-    (s, x, given, k, some-of _ _ (sym (c.window_rule.ensures s _ x.body k.writer) ∙ c.in-Some.is))
+    rw (k.media, k.id_is) (kept-admitted (table_of x.exchanges) (id_of x.heads.request.asks))
 
-pub returns-in-Some-clause-closes : goal.returns-in-Some-clause-closes
-returns-in-Some-clause-closes g c = λ s x given k.
-    Gives-weaker _ _ given _ _ (λ more closes. as_closes c.close_decided.result c.args.offset c.close_decided.new.self s x (given ++ more) closes)
-    (c.close_decided.ensures.closes s x given k (some-of _ _ (sym (c.window_rule.ensures s _ x.body k.writer) ∙ c.in-Some.is)))
+pub returns-in-Ok-clause-closes : goal.returns-in-Ok-clause-closes
+returns-in-Ok-clause-closes g c = λ s x given k.
+    let all = written_exchanges s map.empty 0 x.exchanges in
+    let number = c.number-number.ensures ∙ number-is c.args.self.now.progress.counts x.exchanges k.common.counts in
+    Gives-weaker _ _ given _ _ (λ more passed.
+    let verdict = passed.1.0 in
+    record {
+      gave = passed.0 ∙ ap (λ n. all ++ written_whole s.job n (coming_response s x) x.body) number;
+      settings = c.in-Ok.ensures.settings ∙ k.common.settings;
+      counts = ap (λ (p : Progress). p.counts) c.close.ensures ∙ ap (λ d. count_with d c.in-Ok.verdict.allow) k.common.counts
+          ∙ ap (count_with (counts_of (rules_of_exchanges x.exchanges))) (verdict.allow ∙ ap (λ (r : Rule). is_allowing r) verdict.rule)
+          ∙ sym (counts-snoc (rules_of_exchanges x.exchanges) (coming_rule s x));
+      told = rw (ap (λ (p : Progress). p.told) c.close.ensures) (told-more c.args.self.now.progress.told s x.exchanges given more k.common.told);
+      asking = refl;
+      head = c.clear.ensures;
+      media = c.leave.ensures
+          ∙ rw (k.media, k.id_is, verdict.state, verdict.rule) (stored-keeps (table_of x.exchanges) (id_of x.heads.request.asks) _);
+      writer = passed.1.1;
+      offset = ap (λ (p : Progress). p.offset) c.close.ensures ∙ sym (ap (λ (p : Progress). p.taken) c.close.ensures);
+    }) (c.in-Ok.ensures.passes s _ x.body given all k.writer k.gave)
 
-pub returns-in-None-clause-closes : goal.returns-in-None-clause-closes
-returns-in-None-clause-closes g c = λ s x given k.
-    Gives-none _ given _ (g.met.O.Sink.told_agrees c.args.output.now) (
-      refl,
-      record {
-        none = sym (c.window_rule.ensures s _ x.body k.writer) ∙ c.in-None.is;
-        gave = k.gave;
-        common = k.common;
-      },
-    )
+pub returns-in-Err-clause-closes : goal.returns-in-Err-clause-closes
+returns-in-Err-clause-closes g c = λ s x given k.
+    let all = written_exchanges s map.empty 0 x.exchanges in
+    let number = c.number-number.ensures ∙ number-is c.args.self.now.progress.counts x.exchanges k.common.counts in
+    Gives-weaker _ _ given _ _ (λ more within. record {
+      within = subst (λ (n : ℕ). IsPrefix (given ++ more) (all ++ written_whole s.job n (coming_response s x) x.body)) number within;
+      told = told-more c.args.self.now.progress.told s x.exchanges given more k.common.told;
+    }) (c.in-Err.ensures.passes s _ x.body given all k.writer k.gave)

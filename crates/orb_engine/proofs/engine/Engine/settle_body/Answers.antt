@@ -1,35 +1,17 @@
-use Rattle.std.proofs.Common.{◌++◌, refl, sym, inl, ◌∙◌}
+use Rattle.std.proofs.Common.{◌++◌, refl, sym, ◌∙◌}
 use Rattle.std.proofs.lemmas.Bool.{false≢true}
 use Rattle.orb_io.proofs.GivesLemmas.{Gives-none, Gives-weaker}
-use Rattle.orb_engine.specs.Reads.{coming_response}
-use Rattle.orb_engine.proofs.BodyLaws.{text-rule}
-use Rattle.orb_engine.proofs.FillLemmas.{at-filled, few-exchanges, undecided-stops, goes-on, settled}
+use Rattle.orb_engine.proofs.FillLemmas.{at-filled, few-exchanges, goes-on, settled}
 use Rattle.orb_engine.proofs.engine.Engine.settle_body.Goals as goal
-
-pub returns-then-is_undecided-clause-goes : goal.returns-then-is_undecided-clause-goes
-returns-then-is_undecided-clause-goes g c = record {
-  gives = λ s m given h.
-      let f = at-filled c.args.self.now.state c.in-Body.incoming c.args.self.now s m given c.in-Body.is h in
-      let x = coming_response s f.coming in
-      let text = sym (c.is_undecided.ensures s x f.coming.body f.receives.writer) ∙ c.if-is_undecided.true in
-      Gives-none _ given _ (g.met.O.Sink.told_agrees c.args.output.now)
-      (undecided-stops c.in-Body.incoming c.args.self.now _ s m given given f
-      (record { none = text-rule x.head f.coming.body text; gave = f.gave; common = f.common })
-      (record { heads = f.good; front = f.front; undecided = inl text }));
-  causes = refl;
-  keeps = g.met.O.Sink.kept_reflexive c.args.output.now;
-}
 
 pub returns-then-not-is_whole-clause-goes : goal.returns-then-not-is_whole-clause-goes
 returns-then-not-is_whole-clause-goes g c = record {
   gives = λ s m given h.
       let f = at-filled c.args.self.now.state c.in-Body.incoming c.args.self.now s m given c.in-Body.is h in
-      let x = coming_response s f.coming in
-      let open_ = sym (c.is_undecided.ensures s x f.coming.body f.receives.writer) ∙ c.if-is_undecided.false in
       let whole = c.is_whole.ensures.whole f.coming.heads.response.frame f.coming.sent f.coming.body f.receives.unframer in
       Gives-none _ given _ (g.met.O.Sink.told_agrees c.args.output.now)
       (goes-on c.in-Body.incoming _ s m given f c.in-Body.is
-      (λ is. false≢true (sym c.if-not-is_whole.true ∙ whole.1 is)) open_);
+      (λ is. false≢true (sym c.if-not-is_whole.true ∙ whole.1 is)));
   causes = refl;
   keeps = g.met.O.Sink.kept_reflexive c.args.output.now;
 }
