@@ -26,7 +26,7 @@ for word in filter explain; do
     compare $word long 0 ""
     compare $word cut 3 "orb: cut at 0"
     compare $word bad-head 2 "orb: bad-head at 0"
-    compare $word not-built 8 "orb: not built at 43"
+    compare $word unknown 0 ""
 done
 echo "examples: $passed as owed, $failed otherwise"
 [ "$failed" = 0 ]

@@ -12,14 +12,14 @@ use Rattle.orb_engine.proofs.AnswerLaws.{one-output, output-longer}
 use Rattle.orb_engine.specs.Runs.{Ends, Fails, RunAnswers, Ran as EngineRan}
 use Rattle.orb_engine.specs.declared.engine.Engine.{Engine}
 use Rattle.orb_engine.specs.declared.outcome.EngineOutcome.{EngineOutcome}
-use Rattle.orb_engine.specs.declared.outcome.EngineOutcome.TheVariants.{Done, Bad, Cut, HeadLimit, MediaFull, NotBuilt, Endless, ReadFault, WriteFault}
+use Rattle.orb_engine.specs.declared.outcome.EngineOutcome.TheVariants.{Done, Bad, Cut, HeadLimit, MediaFull, Endless, ReadFault, WriteFault}
 use Rattle.orb_cli.specs.declared.outcome.Outcome.{Outcome}
 use Rattle.orb_cli.specs.Words.{Judge}
 use Rattle.orb_cli.specs.Answer.{EndsAt, FallsShort, IsJudgeAnswer, Ran}
 use Rattle.orb_cli.specs.Outcomes.{outcome_of}
 
 EndsAt-ends : (e : Engine) (s : Settings) (read : List ℕ) (ended : Bool) (P : End → Type 0) (stop : End) (wrote : List ℕ)
-    (h : Ends e s read ended P wrote) → stop_of s h.recording ended ≡ stop → EndsAt s read ended wrote stop
+    (h : Ends e s read ended P wrote) → stop_of h.recording ended ≡ stop → EndsAt s read ended wrote stop
 EndsAt-ends e s read ended P stop wrote h is =
     record { recording = h.recording; cut = h.cut; stops = is; output = h.gave }
 
@@ -54,7 +54,6 @@ judges (Bad kind place) e s read ended wrote h = EndsAt-ends e s read ended _ (e
 judges (Cut place) e s read ended wrote h = EndsAt-ends e s read ended _ (ends.Cut place) wrote h h.stop
 judges (HeadLimit place) e s read ended wrote h = EndsAt-ends e s read ended _ (ends.HeadLimit place) wrote h h.stop
 judges (MediaFull place) e s read ended wrote h = EndsAt-ends e s read ended _ (ends.MediaFull place) wrote h h.stop
-judges (NotBuilt place) e s read ended wrote h = EndsAt-ends e s read ended _ (ends.NotBuilt place) wrote h h.stop
 judges Endless e s read ended wrote h = (h.0, h.1, EndsAt-ends e s _ false _ ends.Open wrote h.2 h.2.stop)
 judges ReadFault e s read ended wrote h = (h.0, EndsAt-ends e s read false _ ends.Open wrote h.1 h.1.stop)
 judges WriteFault e s read ended wrote h = FallsShort-fails e s read ended wrote h

@@ -8,7 +8,7 @@ use Rattle.orb_engine.specs.Ends.{End}
 use Rattle.orb_engine.specs.Complete.{IsWholeRecording, IsAll}
 use Rattle.orb_engine.proofs.CompleteLemmas.{front_is_all, whole_is_not_endless}
 use Rattle.orb_cli.specs.declared.outcome.Outcome.{Outcome}
-use Rattle.orb_cli.specs.declared.outcome.Outcome.TheVariants.{Done, Usage, Bad, Cut, HeadLimit, MediaFull, NotBuilt, Endless, ReadFault, WriteFault, NoMemory}
+use Rattle.orb_cli.specs.declared.outcome.Outcome.TheVariants.{Done, Usage, Bad, Cut, HeadLimit, MediaFull, Endless, ReadFault, WriteFault, NoMemory}
 use Rattle.orb_cli.specs.Words.{Judge, Mime}
 use Rattle.orb_cli.specs.Answer.{EndsAt, Ran, HasCauses}
 use Rattle.orb_cli.specs.Complete.{IsComplete, IsCompleteText}
@@ -44,8 +44,6 @@ complete_recording s bytes r (Some rest) wrote m m' n n' (HeadLimit place) whole
     whole_is_done s bytes ran.read rest wrote r ran.ended (ends.HeadLimit place) whole ran.lost ran.at_end ran.answers (λ o. cc) (λ o. cc)
 complete_recording s bytes r (Some rest) wrote m m' n n' (MediaFull place) whole ran causes calm calm' =
     whole_is_done s bytes ran.read rest wrote r ran.ended (ends.MediaFull place) whole ran.lost ran.at_end ran.answers (λ o. cc) (λ o. cc)
-complete_recording s bytes r (Some rest) wrote m m' n n' (NotBuilt place) whole ran causes calm calm' =
-    whole_is_done s bytes ran.read rest wrote r ran.ended (ends.NotBuilt place) whole ran.lost ran.at_end ran.answers (λ o. cc) (λ o. cc)
 complete_recording s bytes r (Some rest) wrote m m' n n' Endless whole ran causes calm calm' =
     whole_is_not_endless s bytes ran.read rest r whole ran.lost ran.answers.0
 complete_recording s bytes r (Some rest) wrote m m' n n' ReadFault whole ran causes calm calm' = calm causes.0

@@ -20,7 +20,7 @@ Untouched read wrote = (read ≡ []) × (wrote ≡ [])
 pub record EndsAt (s : Settings) (read : List ℕ) (ended : Bool) (wrote : List ℕ) (stop : End) : Type 0 where
   pub recording : Recording
   pub cut : IsRecording s read recording
-  pub stops : stop_of s recording ended ≡ stop
+  pub stops : stop_of recording ended ≡ stop
   pub output : wrote ≡ output_of s recording ended
 
 -- what was written begins what is written of some first bytes of those read, and of all of them
@@ -40,7 +40,6 @@ IsJudgeAnswer s read ended wrote (outcomes.Bad kind place) = EndsAt s read ended
 IsJudgeAnswer s read ended wrote (outcomes.Cut place) = EndsAt s read ended wrote (ends.Cut place)
 IsJudgeAnswer s read ended wrote (outcomes.HeadLimit place) = EndsAt s read ended wrote (ends.HeadLimit place)
 IsJudgeAnswer s read ended wrote (outcomes.MediaFull place) = EndsAt s read ended wrote (ends.MediaFull place)
-IsJudgeAnswer s read ended wrote (outcomes.NotBuilt place) = EndsAt s read ended wrote (ends.NotBuilt place)
 IsJudgeAnswer s read ended wrote outcomes.Endless =
     (run_limit < length read) × (ended ≡ false) × EndsAt s (take run_limit read) false wrote ends.Open
 IsJudgeAnswer s read ended wrote outcomes.ReadFault = (ended ≡ false) × EndsAt s read false wrote ends.Open

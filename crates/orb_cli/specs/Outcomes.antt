@@ -11,7 +11,6 @@ outcome_of (engine.Bad kind place) = outcomes.Bad kind place
 outcome_of (engine.Cut place) = outcomes.Cut place
 outcome_of (engine.HeadLimit place) = outcomes.HeadLimit place
 outcome_of (engine.MediaFull place) = outcomes.MediaFull place
-outcome_of (engine.NotBuilt place) = outcomes.NotBuilt place
 outcome_of engine.Endless = outcomes.Endless
 outcome_of engine.ReadFault = outcomes.ReadFault
 outcome_of engine.WriteFault = outcomes.WriteFault

@@ -20,8 +20,6 @@ pub enum Outcome {
     HeadLimit { place: u64 },
     /// The request at this place has a new media id, and there is no room for it.
     MediaFull { place: u64 },
-    /// The response at this place is one that the rules built so far don't decide.
-    NotBuilt { place: u64 },
     /// The input goes on past the last byte that one run takes.
     Endless,
     /// The source failed.
@@ -42,7 +40,6 @@ impl From<EngineOutcome> for Outcome {
             EngineOutcome::Cut { place } => Outcome::Cut { place },
             EngineOutcome::HeadLimit { place } => Outcome::HeadLimit { place },
             EngineOutcome::MediaFull { place } => Outcome::MediaFull { place },
-            EngineOutcome::NotBuilt { place } => Outcome::NotBuilt { place },
             EngineOutcome::Endless => Outcome::Endless,
             EngineOutcome::ReadFault => Outcome::ReadFault,
             EngineOutcome::WriteFault => Outcome::WriteFault,

@@ -21,7 +21,6 @@ impl Outcome {
             Outcome::ReadFault => 5,
             Outcome::WriteFault => 6,
             Outcome::NoMemory => 7,
-            Outcome::NotBuilt { .. } => 8,
         }
     }
 }
@@ -37,7 +36,6 @@ pub fn outcome_line(outcome: &Outcome) -> ArrayVec<u8, 96>
         Outcome::Cut { place } => line_at(b"cut", *place),
         Outcome::HeadLimit { place } => line_at(b"head limit", *place),
         Outcome::MediaFull { place } => line_at(b"media full", *place),
-        Outcome::NotBuilt { place } => line_at(b"not built", *place),
         Outcome::Endless => line(b"endless"),
         Outcome::ReadFault => line(b"read fault"),
         Outcome::WriteFault => line(b"write fault"),

@@ -23,7 +23,7 @@ enum Fault {
 
 use BadKind::{BadChunk, BadFraming, BadHead, BadMediaId, Interim, RequestBody};
 use Fault::{Calm, Pull, Push};
-use Outcome::{Bad, Cut, Done, HeadLimit, MediaFull, NotBuilt, ReadFault, WriteFault};
+use Outcome::{Bad, Cut, Done, HeadLimit, MediaFull, ReadFault, WriteFault};
 use Word::{Explain, Filter};
 
 /// What the recording is, the word, what fails, the recording, the answer, and what is written: texts in
@@ -506,14 +506,55 @@ const WORKED: &[Row] = &[
         b"HTTP/1.1 403 Forbidden\r\nContent-Length: 0\r\nOrb-Rule: never-sniffed\r\n\r\n",
     ),
     (
-        "a body that the rules so far leave open",
+        "an array",
+        Explain,
+        Calm,
+        b"GET / HTTP/1.1\r\nSec-Fetch-Mode: no-cors\r\n\r\n\
+         HTTP/1.1 200 OK\r\nContent-Type: application/octet-stream\r\nContent-Length: 5\r\n\r\n\
+         [1,2]",
+        Done,
+        b"1 block json na 5\n",
+    ),
+    (
+        "an assignment",
+        Explain,
+        Calm,
+        b"GET / HTTP/1.1\r\nSec-Fetch-Mode: no-cors\r\n\r\n\
+         HTTP/1.1 200 OK\r\nContent-Type: application/octet-stream\r\nContent-Length: 3\r\n\r\n\
+         a=1",
+        Done,
+        b"1 allow script na 3\n",
+    ),
+    (
+        "slashes of both kinds",
+        Explain,
+        Calm,
+        b"GET / HTTP/1.1\r\nSec-Fetch-Mode: no-cors\r\n\r\n\
+         HTTP/1.1 200 OK\r\nContent-Type: application/octet-stream\r\nContent-Length: 28\r\n\r\n\
+         if (a) /b/.c; else d / e / f",
+        Done,
+        b"1 allow script na 28\n",
+    ),
+    (
+        "a name",
         Filter,
         Calm,
         b"GET / HTTP/1.1\r\nSec-Fetch-Mode: no-cors\r\n\r\n\
          HTTP/1.1 200 OK\r\nContent-Type: application/octet-stream\r\nContent-Length: 1\r\n\r\n\
          x",
-        NotBuilt { place: 43 },
-        b"",
+        Done,
+        b"HTTP/1.1 200 OK\r\nContent-Type: application/octet-stream\r\nContent-Length: 1\r\n\r\n\
+         x",
+    ),
+    (
+        "an array",
+        Filter,
+        Calm,
+        b"GET / HTTP/1.1\r\nSec-Fetch-Mode: no-cors\r\n\r\n\
+         HTTP/1.1 200 OK\r\nContent-Type: application/octet-stream\r\nContent-Length: 5\r\n\r\n\
+         [1,2]",
+        Done,
+        b"HTTP/1.1 403 Forbidden\r\nContent-Length: 0\r\nOrb-Rule: json\r\n\r\n",
     ),
 ];
 
@@ -678,7 +719,7 @@ fn mime_writes_a_line(rt: HostRuntime) -> Result<(), Fail> {
 
 #[test]
 fn outcomes_have_their_status_and_line(rt: HostRuntime) {
-    let owed: [(Outcome, u8, &[u8]); 6] = [
+    let owed: [(Outcome, u8, &[u8]); 5] = [
         (Outcome::Done, 0, b""),
         (Outcome::Usage, 1, b"orb: words refused\n"),
         (
@@ -694,11 +735,6 @@ fn outcomes_have_their_status_and_line(rt: HostRuntime) {
             Outcome::HeadLimit { place: 0 },
             4,
             b"orb: head limit at 0\n",
-        ),
-        (
-            Outcome::NotBuilt { place: 43 },
-            8,
-            b"orb: not built at 43\n",
         ),
     ];
     for (outcome, status, line) in owed {

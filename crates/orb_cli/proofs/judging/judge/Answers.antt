@@ -1,4 +1,4 @@
-use Rattle.std.proofs.Common.{[], ◌++◌, false, refl, arith}
+use Rattle.std.proofs.Common.{[]}
 use Rattle.orb_io.proofs.GivesLemmas.{Gives-weaker}
 use Rattle.orb_engine.specs.Runs.{settings_of}
 use Rattle.orb_cli.proofs.AnswerLemmas.{Ran-run}

@@ -1,4 +1,4 @@
-use Rattle.std.proofs.Common.{◌≡◌, ◌++◌, true, false, [], Option, refl, sym, subst, arith}
+use Rattle.std.proofs.Common.{◌≡◌, true, false, [], Option, refl, sym, subst, arith}
 use Rattle.orb_io.proofs.ToldLemmas.{Loses-none}
 use Rattle.orb_io.proofs.GivesLemmas.{Gives-none, Gives-weaker}
 use Rattle.orb_cli.specs.declared.outcome.Outcome.TheVariants.{Usage}
