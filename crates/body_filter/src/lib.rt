@@ -8,8 +8,6 @@
 //! memory.
 #![tactic(auto)]
 
-#[cfg(test)]
-mod examples;
 mod filtering;
 mod judging;
 mod laws;

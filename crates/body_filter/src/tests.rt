@@ -2,9 +2,8 @@
 ghost use Rattle.std.specs.Prelude.{◌≡◌, ◌≤◌, IfOk, OnOk};
 ghost use Rattle.body_filter.specs.Reads.{CanFeed, IsMadeFor, limit_of};
 
-use crate::examples::{BARE, HTML, PLAIN, fields_of};
 use crate::{Filter, WriteFault};
-use header_values::{FieldSpan, Scratch};
+use header_values::{FieldSpan, Fields, Scratch};
 use media_state::MediaState;
 use orb_io::MemorySink;
 use response_rules::{Decider, Policy, Rule, Verdict};
@@ -12,6 +11,39 @@ use std::alloc::Global;
 use std::test::Fail;
 
 const LIMIT: u64 = 2048;
+
+/// No fields.
+const BARE: (&[u8], &[FieldSpan]) = (b"", &[]);
+
+/// Plain text.
+const PLAIN: (&[u8], &[FieldSpan]) = (
+    b"Content-Type: text/plain\r\n",
+    &[FieldSpan {
+        name_start: 0,
+        name_end: 12,
+        value_start: 14,
+        value_end: 24,
+    }],
+);
+
+/// HTML that isn't to be guessed.
+const HTML: (&[u8], &[FieldSpan]) = (
+    b"Content-Type: text/html\r\nX-Content-Type-Options: nosniff\r\n",
+    &[
+        FieldSpan {
+            name_start: 0,
+            name_end: 12,
+            value_start: 14,
+            value_end: 23,
+        },
+        FieldSpan {
+            name_start: 25,
+            name_end: 47,
+            value_start: 49,
+            value_end: 56,
+        },
+    ],
+);
 
 const HEAD: &[u8] = b"HTTP/1.1 200 OK\r\n\r\n";
 
@@ -47,7 +79,7 @@ fn made_with<'a>(fields: (&'a [u8], &'a [FieldSpan]), opaque: bool, chunked: boo
 fn decider(alloc: Global, response: &Response) -> Result<Decider, Fail>
     ensures { IfOk result (λ d. IsMadeFor d LIMIT) }
 {
-    let fields = fields_of(response.fields.0, response.fields.1).ok_or("fields of the head")?;
+    let fields = Fields::of(response.fields.0, response.fields.1).ok_or("fields of the head")?;
     let mut scratch = Scratch::open(alloc, fields.head.len())?;
     Ok(Decider::new(
         Policy::Orb,
