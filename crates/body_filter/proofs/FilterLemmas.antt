@@ -1,15 +1,15 @@
 -- What a filter knows of a response.
-use Rattle.std.proofs.Common.{◌≡◌, ℕ, ◌%◌, Bool, true, false, List, [], ◌++◌, length, Option, Some, None, if◌then◌else◌, refl, sym, ap, ◌∙◌}
+use Rattle.std.proofs.Common.{◌≡◌, ℕ, ◌%◌, Bool, true, false, List, [], ◌++◌, length, if◌then◌else◌, refl, sym, ap, ◌∙◌}
 use Rattle.std.proofs.lemmas.List.{append-nil}
 use Rattle.response_rules.specs.declared.deciding.Decider.{Decider}
 use Rattle.response_rules.specs.Rules.{is_allowing}
 use Rattle.response_rules.specs.Heads.{Head}
 use Rattle.response_rules.specs.Tables.{rule_of}
+use Rattle.response_rules.specs.Reads.{HasRead as DeciderHasRead, is_script_dead as is_dead_in}
 use Rattle.response_rules.specs.Settled.{is_sent, is_hopeless}
 use Rattle.response_rules.proofs.HopelessLemmas.{hopeless-unsent, hopeless-blocks}
 use Rattle.http_exchange.specs.Chunks.{chunk_size, body_so_far}
 use Rattle.body_filter.specs.Responses.{Response, output_so_far, held_of}
-use Rattle.body_filter.specs.Judged.{Decides, dead_by}
 
 -- nothing, or the head and the body
 pub so_far-unsent : (x : Response) (m : List ℕ) → is_sent x.head m ≡ false → output_so_far x m ≡ []
@@ -21,10 +21,9 @@ unfolding output_so_far
 so_far-sent x m sent = rw sent refl
 
 -- what is hopeless is blocked
-pub dropped-blocks : (d : Option Decider) (h : Head) (m : List ℕ) → Decides d h m → is_hopeless h m (dead_by d) ≡ true
+pub dropped-blocks : (d : Decider) (h : Head) (m : List ℕ) → DeciderHasRead d h m → is_hopeless h m (is_dead_in d) ≡ true
     → is_allowing (rule_of h m) ≡ false
-dropped-blocks None h m decides over = absurd decides
-dropped-blocks (Some d) h m decides over =
+dropped-blocks d h m decides over =
     ap (λ t. is_allowing (rule_of h t)) (sym (append-nil m)) ∙ hopeless-blocks d h m [] decides over
 
 -- how much is held

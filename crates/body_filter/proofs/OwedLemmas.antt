@@ -4,7 +4,7 @@ use Rattle.std.proofs.lemmas.List.{append-nil}
 use Rattle.response_rules.specs.declared.verdicts.Verdict.{Verdict}
 use Rattle.response_rules.specs.Rules.{is_allowing}
 use Rattle.response_rules.specs.Settled.{is_sent}
-use Rattle.response_rules.specs.Reads.{IsVerdict}
+use Rattle.response_rules.specs.Reads.{HasRead as DeciderHasRead, IsVerdict, is_script_dead as is_dead_in}
 use Rattle.response_rules.specs.Tables.{rule_of}
 use Rattle.response_rules.proofs.SettledLemmas.{sent-allows}
 use Rattle.response_rules.proofs.HopelessLemmas.{hopeless-unsent}
@@ -16,7 +16,6 @@ use Rattle.http_exchange.specs.Framing.{put_of, kept_after, end_of}
 use Rattle.http_exchange.specs.Framers.{is_chunked_by, kept_by}
 use Rattle.body_filter.specs.Reply.{reply_of}
 use Rattle.body_filter.specs.Responses.{Response, output_so_far, whole_output}
-use Rattle.body_filter.specs.Judged.{Decides, dead_by}
 use Rattle.body_filter.specs.Reads.{Stands, ended_by}
 use Rattle.http_exchange.proofs.FramingLaws.{front-on, kept-on, front-none, released, released-kept, held-whole, whole-is}
 use Rattle.body_filter.proofs.FilterLemmas.{so_far-unsent, so_far-sent, dropped-blocks}
@@ -80,7 +79,7 @@ ends_held x m v chunked rest head held is none same all verdict =
         (ap (λ t. x.bytes ++ t) (held-whole x.chunked m) ∙ sym (whole-allowed x m allows))
     by false blocks = ap reply_of verdict.rule ∙ sym (whole-blocked x m blocks)
 
-pub ended-is : (p : Phase) (f g : Filter) (x : Response) (m : List ℕ) (v : Verdict) → Stands p f x m → Decides f.decider x.head m
+pub ended-is : (p : Phase) (f g : Filter) (x : Response) (m : List ℕ) (v : Verdict) → Stands p f x m → DeciderHasRead f.decider x.head m
     → IsVerdict x.head m v → g.framer ≡ f.framer → g.head ≡ f.head → g.held ≡ f.held
     → output_so_far x m ++ ended_by p g v ≡ whole_output x m
 ended-is phase.Idle f g x m v stands decides verdict framer head held = absurd stands
@@ -94,5 +93,5 @@ ended-is phase.Passing f g x m v stands decides verdict framer head held =
     (ap is_chunked_by framer ∙ stands.chunked) (ap kept_by framer ∙ stands.rest)
     stands.sent verdict
 ended-is phase.Dropping f g x m v stands decides verdict framer head held =
-    rw (so_far-unsent x m (hopeless-unsent x.head m (dead_by f.decider) stands.over))
+    rw (so_far-unsent x m (hopeless-unsent x.head m (is_dead_in f.decider) stands.over))
     (ap reply_of verdict.rule ∙ sym (whole-blocked x m (dropped-blocks f.decider x.head m decides stands.over)))

@@ -8,11 +8,11 @@ use Rattle.body_filter.specs.declared.judging.Judgement.TheVariants as judgement
 use Rattle.body_filter.specs.declared.phases.Phase.{Phase}
 use Rattle.body_filter.specs.declared.phases.Phase.TheVariants as phase
 use Rattle.body_filter.specs.Responses.{Response}
-use Rattle.body_filter.specs.Judged.{Decides, judged}
+use Rattle.body_filter.specs.Judged.{judged}
 use Rattle.body_filter.specs.Reads.{HasRead, IsSpent, IsMadeFor, Holds, PassesOn, Drops, Stands, limit_of}
 
 -- the phases
-pub reads-holding : (f : Filter) (x : Response) (m : List ℕ) → x.head.limit ≡ limit_of f → Decides f.decider x.head m
+pub reads-holding : (f : Filter) (x : Response) (m : List ℕ) → x.head.limit ≡ limit_of f → DeciderHasRead f.decider x.head m
     → f.phase ≡ phase.Holding → Holds f x m → HasRead f x m
 reads-holding f x m limit decides is stands = record {
   limit = limit;
@@ -20,7 +20,7 @@ reads-holding f x m limit decides is stands = record {
   stands = let P : Phase → Type 0 = λ p. Stands p f x m in subst P (sym is) stands;
 }
 
-pub reads-passing : (f : Filter) (x : Response) (m : List ℕ) → x.head.limit ≡ limit_of f → Decides f.decider x.head m
+pub reads-passing : (f : Filter) (x : Response) (m : List ℕ) → x.head.limit ≡ limit_of f → DeciderHasRead f.decider x.head m
     → f.phase ≡ phase.Passing → PassesOn f x m → HasRead f x m
 reads-passing f x m limit decides is stands = record {
   limit = limit;
@@ -28,7 +28,7 @@ reads-passing f x m limit decides is stands = record {
   stands = let P : Phase → Type 0 = λ p. Stands p f x m in subst P (sym is) stands;
 }
 
-pub reads-dropping : (f : Filter) (x : Response) (m : List ℕ) → x.head.limit ≡ limit_of f → Decides f.decider x.head m
+pub reads-dropping : (f : Filter) (x : Response) (m : List ℕ) → x.head.limit ≡ limit_of f → DeciderHasRead f.decider x.head m
     → f.phase ≡ phase.Dropping → Drops f x m → HasRead f x m
 reads-dropping f x m limit decides is stands = record {
   limit = limit;

@@ -1,10 +1,12 @@
 -- What a filter has read of a response, and what its calls do then.
 use Rattle.std.specs.Prelude.{◌≡◌, ℕ, Bool, true, false, List, [], ◌++◌, length, if◌then◌else◌}
 use Rattle.response_rules.specs.declared.deciding.Decider.{Decider}
+use Rattle.response_rules.specs.declared.facts.Facts.{Facts}
 use Rattle.response_rules.specs.declared.verdicts.Verdict.{Verdict}
 use Rattle.response_rules.specs.Heads.{Head}
 use Rattle.response_rules.specs.Settled.{is_sent, is_hopeless}
-use Rattle.response_rules.specs.Reads.{HasRead as DeciderHasRead}
+use Rattle.response_rules.specs.Facts.{AreFactsOf}
+use Rattle.response_rules.specs.Reads.{HasRead as DeciderHasRead, is_script_dead as is_dead_in}
 use Rattle.body_filter.specs.declared.filtering.Filter.{Filter}
 use Rattle.body_filter.specs.declared.phases.Phase.{Phase}
 use Rattle.body_filter.specs.declared.phases.Phase.TheVariants as phase
@@ -13,7 +15,6 @@ use Rattle.body_filter.specs.Responses.{Response}
 use Rattle.http_exchange.specs.Framers.{is_chunked_by, kept_by}
 use Rattle.body_filter.specs.Reply.{reply_of}
 use Rattle.http_exchange.specs.Framing.{put_of, kept_after, end_of}
-use Rattle.body_filter.specs.Judged.{Decides, dead_by}
 
 -- how many bytes of a body it holds back at most
 abbrev pub limit_of : Filter → ℕ
@@ -31,12 +32,12 @@ held_in f = held_by f.phase f
 
 -- the script test that reads its body is dead
 abbrev pub is_script_dead : Filter → Bool
-is_script_dead f = dead_by f.decider
+is_script_dead f = is_dead_in f.decider
 
 -- nothing has gone out, and the body is kept
 pub record Holds (f : Filter) (x : Response) (m : List ℕ) : Type 0 where
   pub unsent : is_sent x.head m ≡ false
-  pub hopeful : is_hopeless x.head m (dead_by f.decider) ≡ false
+  pub hopeful : is_hopeless x.head m (is_dead_in f.decider) ≡ false
   pub head : f.head.items ≡ x.bytes
   pub held : f.held.items ≡ m
   pub chunked : is_chunked_by f.framer ≡ x.chunked
@@ -50,7 +51,7 @@ pub record PassesOn (f : Filter) (x : Response) (m : List ℕ) : Type 0 where
 
 -- no byte of it will, and none is kept
 pub record Drops (f : Filter) (x : Response) (m : List ℕ) : Type 0 where
-  pub over : is_hopeless x.head m (dead_by f.decider) ≡ true
+  pub over : is_hopeless x.head m (is_dead_in f.decider) ≡ true
 
 -- what its fields are in each phase
 abbrev pub Stands : Phase → Filter → Response → List ℕ → Type 0
@@ -62,7 +63,7 @@ Stands phase.Dropping f x m = Drops f x m
 -- it has read this prefix of the body of that response, and put what goes out of the response then
 pub record HasRead (f : Filter) (x : Response) (m : List ℕ) : Type 0 where
   pub limit : x.head.limit ≡ limit_of f
-  pub decides : Decides f.decider x.head m
+  pub decides : DeciderHasRead f.decider x.head m
   pub stands : Stands f.phase f x m
 
 -- it reads a response
@@ -79,6 +80,12 @@ IsSpent f = (x : Response) (m : List ℕ) → HasRead f x m → ⊥
 pub record IsMadeFor (decider : Decider) (most : ℕ) : Type 0 where
   pub h : Head
   pub reads : DeciderHasRead decider h []
+  pub limit : h.limit ≡ most
+
+-- the facts are those of a response that is read for a script up to that limit
+pub record AreMadeFor (facts : Facts) (most : ℕ) : Type 0 where
+  pub h : Head
+  pub of_head : AreFactsOf facts h
   pub limit : h.limit ≡ most
 
 -- what goes out at the end of the body that it reads, by the rule that decides

@@ -1,7 +1,7 @@
 //! A body held back, passed on or dropped.
 ghost use Rattle.std.specs.Prelude.{◌≤◌, vec_len, vec_capacity};
 
-use crate::judging::{Judgement, finish, judge, read_on};
+use crate::judging::{Judgement, judge, read_on};
 use crate::phases::{Phase, idle_at_fault};
 use crate::pushing::{WriteFault, put_bytes};
 use crate::replying::put_reply;
@@ -9,7 +9,7 @@ use crate::writing::{put_last, put_piece, put_whole, release};
 use http_exchange::Framer;
 use orb_bytes::append;
 use orb_io::{NoMemory, Sink};
-use response_rules::{Decider, Verdict};
+use response_rules::{Decider, Facts, Verdict};
 use std::alloc::Global;
 
 /// The most bytes of a head.
@@ -21,8 +21,8 @@ const HEAD: usize = 65_536;
 pub struct Filter {
     limit: usize,
     phase: Phase,
-    // The one of the response that comes.
-    decider: Option<Decider>,
+    // The one of the response that comes, which begins anew with each.
+    decider: Decider,
     framer: Framer,
     head: Vec<u8>,
     held: Vec<u8>,
@@ -37,9 +37,10 @@ impl Filter {
     ghost use Rattle.orb_io.specs.Told.{Delivers};
     ghost use Rattle.orb_io.specs.Calls.{Calls};
     ghost use Rattle.response_rules.specs.Heads.{Head};
+    ghost use Rattle.response_rules.specs.Facts.{AreFactsOf};
     ghost use Rattle.response_rules.specs.Reads.{HasRead as DeciderHasRead, IsVerdict};
     ghost use Rattle.body_filter.specs.Responses.{Response, response_of, output_so_far, whole_output, held_of};
-    ghost use Rattle.body_filter.specs.Reads.{HasRead, CanFeed, IsSpent, IsMadeFor, limit_of, held_in, is_script_dead};
+    ghost use Rattle.body_filter.specs.Reads.{HasRead, CanFeed, IsSpent, IsMadeFor, AreMadeFor, limit_of, held_in, is_script_dead};
 
     /// A filter that holds back at most `limit` bytes of a body, from 1,024 to 268,435,456. It reserves
     /// room for them and for a head of 65,536 bytes.
@@ -59,7 +60,7 @@ impl Filter {
         Ok(Filter {
             limit,
             phase: Phase::Idle,
-            decider: None,
+            decider: Decider::idle(),
             framer: Framer::new(),
             head,
             held,
@@ -70,7 +71,7 @@ impl Filter {
     /// head as it was read, at most 65,536 bytes; and whether its body came in chunks. What was held of
     /// another is dropped. Where the head alone allows the response, the head goes out.
     ///
-    /// After a [`WriteFault`] the filter takes only `begin`.
+    /// After a [`WriteFault`] the filter takes only `begin` or `begin_with`.
     pub fn begin<O: Sink>(
         &mut self,
         decider: Decider,
@@ -88,26 +89,31 @@ impl Filter {
         ensures calls { Calls O.Sink result sink.old sink.new }
         ensures limit { limit_of self.new ≡ limit_of self.old }
     {
-        let judgement = judge(&decider);
-        self.decider = Some(decider);
-        self.framer.start(chunked);
-        match judgement {
-            Judgement::Allowed => {
-                self.phase = Phase::Passing;
-                idle_at_fault(&mut self.phase, put_bytes(head, sink))
-            }
-            Judgement::Blocked => {
-                self.phase = Phase::Dropping;
-                Ok(())
-            }
-            Judgement::Open => {
-                self.phase = Phase::Holding;
-                self.held.clear();
-                self.head.clear();
-                append(&mut self.head, head);
-                Ok(())
-            }
-        }
+        self.decider = decider;
+        self.start(head, chunked, sink)
+    }
+
+    /// Begins a response as `begin` does, by what the rules ask of its head: the filter's own decider reads it, and
+    /// nothing large is moved.
+    pub fn begin_with<O: Sink>(
+        &mut self,
+        facts: Facts,
+        head: &[u8],
+        chunked: bool,
+        sink: &mut O,
+    ) -> Result<(), WriteFault>
+        requires short { length head.now ≤ 65536 }
+        requires made { AreMadeFor facts (limit_of self.old) }
+        ensures delivers { (h : Head) → AreFactsOf facts h
+            → Delivers result (O.told sink.old) (O.told sink.new)
+            [] (output_so_far (response_of h head.now chunked) [])
+            (λ _. HasRead self.new (response_of h head.now chunked) []) }
+        ensures spent { OnErr result (IsSpent self.new) }
+        ensures calls { Calls O.Sink result sink.old sink.new }
+        ensures limit { limit_of self.new ≡ limit_of self.old }
+    {
+        self.decider.begin(facts);
+        self.start(head, chunked, sink)
     }
 
     /// Reads the next piece of the body, after a `begin` that answered Ok. Where a rule that allows is known
@@ -144,7 +150,7 @@ impl Filter {
         ensures calls { Calls O.Sink result sink.old sink.new }
         ensures limit { limit_of self.new ≡ limit_of self.old }
     {
-        let verdict = finish(&mut self.decider);
+        let verdict = self.decider.finish();
         let put = self.put_end(&verdict, sink);
         self.phase = Phase::Idle;
         put?;
@@ -167,11 +173,50 @@ impl Filter {
 }
 
 impl Filter {
-    ghost use Rattle.std.specs.Prelude.{◌≡◌, ℕ, ◌++◌, List, OnErr};
+    ghost use Rattle.std.specs.Prelude.{◌≡◌, ℕ, ◌++◌, List, [], length, OnErr};
     ghost use Rattle.orb_io.specs.Told.{Delivers};
     ghost use Rattle.orb_io.specs.Calls.{Calls, Puts};
-    ghost use Rattle.body_filter.specs.Responses.{Response, output_so_far};
-    ghost use Rattle.body_filter.specs.Reads.{HasRead, CanFeed, limit_of, ended_by};
+    ghost use Rattle.response_rules.specs.Heads.{Head};
+    ghost use Rattle.response_rules.specs.Reads.{HasRead as DeciderHasRead};
+    ghost use Rattle.body_filter.specs.Responses.{Response, response_of, output_so_far};
+    ghost use Rattle.body_filter.specs.Reads.{HasRead, CanFeed, IsSpent, IsMadeFor, limit_of, ended_by};
+
+    /// Begins the response whose decider is new.
+    fn start<O: Sink>(
+        &mut self,
+        head: &[u8],
+        chunked: bool,
+        sink: &mut O,
+    ) -> Result<(), WriteFault>
+        requires short { length head.now ≤ 65536 }
+        requires made { IsMadeFor self.old.decider (limit_of self.old) }
+        ensures delivers { (h : Head) → DeciderHasRead self.old.decider h []
+            → Delivers result (O.told sink.old) (O.told sink.new)
+            [] (output_so_far (response_of h head.now chunked) [])
+            (λ _. HasRead self.new (response_of h head.now chunked) []) }
+        ensures spent { OnErr result (IsSpent self.new) }
+        ensures calls { Calls O.Sink result sink.old sink.new }
+        ensures limit { limit_of self.new ≡ limit_of self.old }
+    {
+        self.framer.start(chunked);
+        match judge(&self.decider) {
+            Judgement::Allowed => {
+                self.phase = Phase::Passing;
+                idle_at_fault(&mut self.phase, put_bytes(head, sink))
+            }
+            Judgement::Blocked => {
+                self.phase = Phase::Dropping;
+                Ok(())
+            }
+            Judgement::Open => {
+                self.phase = Phase::Holding;
+                self.held.clear();
+                self.head.clear();
+                append(&mut self.head, head);
+                Ok(())
+            }
+        }
+    }
 
     /// Reads a piece of a body that is held: keeps it, or lets all go, or drops all.
     fn feed_held<O: Sink>(&mut self, piece: &[u8], sink: &mut O) -> Result<(), WriteFault>

@@ -1,11 +1,11 @@
 //! How far a response is judged.
-ghost use Rattle.std.specs.Prelude.{◌≡◌, ◌++◌, Bool, true, false, List, ℕ, IsSome};
+ghost use Rattle.std.specs.Prelude.{◌≡◌, ◌++◌, Bool, true, false, List, ℕ};
 ghost use Rattle.response_rules.specs.Heads.{Head};
 ghost use Rattle.response_rules.specs.Settled.{is_sent, is_hopeless};
-ghost use Rattle.response_rules.specs.Reads.{HasRead as DeciderHasRead, IsVerdict, progress_of, is_script_dead};
-ghost use Rattle.body_filter.specs.Judged.{Decides, CanDecide, dead_by, judged};
+ghost use Rattle.response_rules.specs.Reads.{HasRead as DeciderHasRead, progress_of, is_script_dead};
+ghost use Rattle.body_filter.specs.Judged.{judged};
 
-use response_rules::{Decider, Progress, Verdict};
+use response_rules::{Decider, Progress};
 
 /// How far a response is judged.
 #[derive(Clone, Copy)]
@@ -27,32 +27,16 @@ pub(crate) fn judge(decider: &Decider) -> Judgement
 }
 
 /// Reads the next piece of the body, and gives the judgement then.
-pub(crate) fn read_on(decider: &mut Option<Decider>, piece: &[u8]) -> Judgement
-    requires { IsSome decider.old }
-    ensures reads { (h : Head) (m : List ℕ) → Decides decider.old h m → Decides decider.new h (m ++ piece.now) }
-    ensures gives { (h : Head) (m : List ℕ) → Decides decider.old h m
-        → result ≡ judged (is_sent h (m ++ piece.now)) (is_hopeless h (m ++ piece.now) (dead_by decider.new)) }
-    ensures hopeless { (h : Head) (m : List ℕ) → Decides decider.old h m → is_hopeless h m (dead_by decider.old) ≡ true
-        → is_hopeless h (m ++ piece.now) (dead_by decider.new) ≡ true }
+pub(crate) fn read_on(decider: &mut Decider, piece: &[u8]) -> Judgement
+    ensures reads { (h : Head) (m : List ℕ) → DeciderHasRead decider.old h m → DeciderHasRead decider.new h (m ++ piece.now) }
+    ensures gives { (h : Head) (m : List ℕ) → DeciderHasRead decider.old h m
+        → result ≡ judged (is_sent h (m ++ piece.now)) (is_hopeless h (m ++ piece.now) (is_script_dead decider.new)) }
+    ensures hopeless { (h : Head) (m : List ℕ) → DeciderHasRead decider.old h m
+        → is_hopeless h m (is_script_dead decider.old) ≡ true
+        → is_hopeless h (m ++ piece.now) (is_script_dead decider.new) ≡ true }
 {
-    match decider {
-        Some(decider) => {
-            let progress = decider.feed(piece);
-            judged_by(progress, decider.is_hopeless())
-        }
-        None => unreachable!(),
-    }
-}
-
-/// The verdict on the whole body.
-pub(crate) fn finish(decider: &mut Option<Decider>) -> Verdict
-    requires { CanDecide decider.old }
-    ensures { (h : Head) (m : List ℕ) → Decides decider.old h m → IsVerdict h m result }
-{
-    match decider {
-        Some(decider) => decider.finish(),
-        None => unreachable!(),
-    }
+    let progress = decider.feed(piece);
+    judged_by(progress, decider.is_hopeless())
 }
 
 fn judged_by(progress: Progress, hopeless: bool) -> Judgement

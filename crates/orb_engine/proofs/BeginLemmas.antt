@@ -3,7 +3,7 @@ use Rattle.std.proofs.Common.{◌≡◌, ℕ, Bool, false, List, [], ◌++◌, r
 use Rattle.std.specs.FinMap as map
 use Rattle.std.proofs.lemmas.List.{append-nil}
 use Rattle.orb_io.specs.Told.{IsPrefix}
-use Rattle.response_rules.specs.declared.deciding.Decider.{Decider}
+use Rattle.response_rules.specs.declared.facts.Facts.{Facts}
 use Rattle.body_filter.specs.Responses as filter
 use Rattle.http_exchange.specs.Reads.{StandsAt}
 use Rattle.http_exchange.specs.Reads.{HasRead as UnframerHasRead}
@@ -33,7 +33,7 @@ starts frame.Chunked = (Chunks (Size 0 0), (refl, refl, refl))
 starts frame.ToEnd = (Rest, refl)
 
 -- the exchange whose heads have been read
-abbrev pub begun : (asked : Asked) (read : Decider × BodyFrame) (e : Engine) (s : Settings) (m given : List ℕ)
+abbrev pub begun : (asked : Asked) (read : Facts × BodyFrame) (e : Engine) (s : Settings) (m given : List ℕ)
     → HasReadHeads asked read e s m given → Coming
 begun asked read e s m given q = record {
   exchanges = q.whole.exchanges;
@@ -43,27 +43,27 @@ begun asked read e s m given q = record {
 }
 
 -- its response, as the writer has it
-pub same-exchange : (asked : Asked) (read : Decider × BodyFrame) (e : Engine) (s : Settings) (m given : List ℕ)
+pub same-exchange : (asked : Asked) (read : Facts × BodyFrame) (e : Engine) (s : Settings) (m given : List ℕ)
     (q : HasReadHeads asked read e s m given) (text : List ℕ) (chunked : Bool) → text ≡ e.head → chunked ≡ is_chunked read.1
     → filter.response_of (judged_by s (table_of q.whole.exchanges) (begun asked read e s m given q).heads) text chunked
     ≡ coming_response s (begun asked read e s m given q)
 same-exchange asked read e s m given q text chunked text_is chunked_is =
     rw (text_is ∙ q.whole.buffer ∙ sym q.bytes, chunked_is ∙ ap is_chunked q.frame_is) refl
 
-spelled : (asked : Asked) (read : Decider × BodyFrame) (e : Engine) (s : Settings) (m given : List ℕ)
+spelled : (asked : Asked) (read : Facts × BodyFrame) (e : Engine) (s : Settings) (m given : List ℕ)
     (q : HasReadHeads asked read e s m given) → m ≡ spell_coming (begun asked read e s m given q)
 spelled asked read e s m given q =
     q.whole.spells ∙ ap (λ t. spell_exchanges q.whole.exchanges (q.whole.request.bytes ++ t)) (sym (append-nil _ ∙ q.bytes))
 
 -- what is owed of it, after what was given and gathered
-owed : (asked : Asked) (read : Decider × BodyFrame) (e : Engine) (s : Settings) (m given : List ℕ)
+owed : (asked : Asked) (read : Facts × BodyFrame) (e : Engine) (s : Settings) (m given : List ℕ)
     (q : HasReadHeads asked read e s m given) (y : filter.Response) → y ≡ coming_response s (begun asked read e s m given q)
     → (given ++ gathered_by e.writer) ++ written_so_far s.job y [] ≡ coming_written s (begun asked read e s m given q)
 owed asked read e s m given q y is =
     ap (λ t. t ++ written_so_far s.job y []) q.whole.gave
     ∙ ap (λ (z : filter.Response). written_exchanges s map.empty 0 q.whole.exchanges ++ written_so_far s.job z []) is
 
-pub begun-fills : (incoming : Incoming) (asked : Asked) (read : Decider × BodyFrame) (e e' : Engine) (s : Settings) (m given more : List ℕ)
+pub begun-fills : (incoming : Incoming) (asked : Asked) (read : Facts × BodyFrame) (e e' : Engine) (s : Settings) (m given more : List ℕ)
     (q : HasReadHeads asked read e s m given) (y : filter.Response) → IsKept e e'
     → y ≡ coming_response s (begun asked read e s m given q)
     → (given ++ more) ++ gathered_by e'.writer ≡ (given ++ gathered_by e.writer) ++ written_so_far s.job y []
@@ -90,7 +90,7 @@ begun-fills incoming asked read e e' s m given more q y kept is gave reads unfra
       };
     }
 
-pub begun-breaks : (asked : Asked) (read : Decider × BodyFrame) (e e' : Engine) (s : Settings) (m given more : List ℕ)
+pub begun-breaks : (asked : Asked) (read : Facts × BodyFrame) (e e' : Engine) (s : Settings) (m given more : List ℕ)
     (q : HasReadHeads asked read e s m given) (y : filter.Response) → IsKept e e'
     → y ≡ coming_response s (begun asked read e s m given q)
     → IsPrefix (given ++ more) ((given ++ gathered_by e.writer) ++ written_so_far s.job y [])

@@ -8,8 +8,9 @@ use Rattle.httparse.specs.Grammar.{status_code}
 use Rattle.http_exchange.specs.Heads.{IsResponse}
 use Rattle.http_exchange.specs.Fields.{pairs_of}
 use Rattle.http_exchange.specs.declared.frames.BodyFrame.{BodyFrame}
-use Rattle.response_rules.specs.declared.deciding.Decider.{Decider}
-use Rattle.response_rules.specs.Reads.{HasRead as DeciderHasRead, head_of}
+use Rattle.response_rules.specs.declared.facts.Facts.{Facts}
+use Rattle.response_rules.specs.Facts.{AreFactsOf}
+use Rattle.response_rules.specs.Reads.{head_of}
 use Rattle.media_state.specs.declared.states.MediaState.{MediaState}
 use Rattle.orb_engine.specs.HeadReads.{ReadsWell}
 use Rattle.orb_engine.proofs.AnswerLaws.{refusal-stands, exchanges-longer}
@@ -455,19 +456,19 @@ response-bad asked e e' s m given kind h same reads =
     }) refl refl (ap (λ p. ends.Bad kind p) (sym h.offset))
     (ap (λ x. given ++ x) (box-same e e' same) ∙ h.gave) (same.counts ∙ h.common.counts) (rw same.told h.common.told)
 
--- the decider is made for the response as the recording has it
-new-judged : (asked : Asked) (d : Decider) (f : BodyFrame) (c s : Settings) (head : List ℕ) (state : MediaState) (asks : RequestHead)
+-- the facts are those of the response as the recording has it
+facts-judged : (asked : Asked) (d : Facts) (f : BodyFrame) (c s : Settings) (head : List ℕ) (state : MediaState) (asks : RequestHead)
     → asked.state ≡ state → asked.asks ≡ asks → c ≡ s → (well : ReadsWell asked c head d f)
-    → DeciderHasRead d (head_of s.policy state asks.opaque (status_code well.tree) (pairs_of well.tree.fields) s.limit well.essence) []
-new-judged asked d f c s head state asks state_is asks_is same well =
+    → AreFactsOf d (head_of s.policy state asks.opaque (status_code well.tree) (pairs_of well.tree.fields) s.limit well.essence)
+facts-judged asked d f c s head state asks state_is asks_is same well =
     let P : MediaState → Bool → Settings → Type 0 =
-    λ m o b. DeciderHasRead d (head_of b.policy m o (status_code well.tree) (pairs_of well.tree.fields) b.limit well.essence) [] in
+    λ m o b. AreFactsOf d (head_of b.policy m o (status_code well.tree) (pairs_of well.tree.fields) b.limit well.essence) in
     subst (λ (b : Settings). P state asks.opaque b) same
     (subst (λ (o : Bool). P state o c) (ap (λ (q : RequestHead). q.opaque) asks_is)
-    (subst (λ (m : MediaState). P m asked.asks.opaque c) state_is well.new))
+    (subst (λ (m : MediaState). P m asked.asks.opaque c) state_is well.facts))
 
 -- the response head is good
-pub response-good : (asked : Asked) (read : Decider × BodyFrame) (e e' : Engine) (s : Settings) (m given : List ℕ)
+pub response-good : (asked : Asked) (read : Facts × BodyFrame) (e e' : Engine) (s : Settings) (m given : List ℕ)
     → HasResponse IsHeadText asked e s m given → IsSameHead e e' → e'.head ≡ e.head → e'.progress.taken ≡ e.progress.taken
     → ReadsWell asked e.writer.settings e.head read.0 read.1 → HasReadHeads asked read e' s m given
 response-good asked read e e' s m given h same head taken well =
@@ -509,7 +510,7 @@ response-good asked read e e' s m given h same head taken well =
         essence = well.states;
       };
       frame_is = refl;
-      new = record { reads = new-judged asked read.0 read.1 e.writer.settings s e.head _ h.request.asks h.state h.asks same_settings well; limit = refl };
+      facts = record { of_head = facts-judged asked read.0 read.1 e.writer.settings s e.head _ h.request.asks h.state h.asks same_settings well; limit = refl };
     }
 
 -- a step that took all of a piece

@@ -50,14 +50,11 @@ pub reads-filter : (w : Worker) (f : Filter) (x : Response) (m : List ℕ) → w
 reads-filter w f x m is h = subst (λ (v : Worker). WorkerReads v x m) is h
 
 -- the worker explains
-pub for-explain : (w : Worker) (s : Settings) → w ≡ worker.Explains → IsWorkerFor w s → s.job ≡ job.Explain
-for-explain w s is h = subst (λ (v : Worker). IsWorkerFor v s) is h
-
-pub for-explaining : (w : Worker) (d : Decider) (s : Settings) → w ≡ worker.Explaining d → IsWorkerFor w s
+pub for-explain : (w : Worker) (d : Decider) (s : Settings) → w ≡ worker.Explains d → IsWorkerFor w s
     → s.job ≡ job.Explain
-for-explaining w d s is h = subst (λ (v : Worker). IsWorkerFor v s) is h
+for-explain w d s is h = subst (λ (v : Worker). IsWorkerFor v s) is h
 
-pub reads-explain : (w : Worker) (d : Decider) (x : Response) (m : List ℕ) → w ≡ worker.Explaining d
+pub reads-explain : (w : Worker) (d : Decider) (x : Response) (m : List ℕ) → w ≡ worker.Explains d
     → WorkerReads w x m → DeciderHasRead d x.head m
 reads-explain w d x m is h = subst (λ (v : Worker). WorkerReads v x m) is h
 

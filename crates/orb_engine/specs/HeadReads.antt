@@ -1,7 +1,8 @@
 -- What is read of a response head, to judge the response and to read its body.
-use Rattle.std.specs.Prelude.{◌≡◌, ℕ, List, [], Option, Result, Ok, Err}
-use Rattle.response_rules.specs.declared.deciding.Decider.{Decider}
-use Rattle.response_rules.specs.Reads.{HasRead as DeciderHasRead, head_of}
+use Rattle.std.specs.Prelude.{◌≡◌, ℕ, List, Option, Result, Ok, Err}
+use Rattle.response_rules.specs.declared.facts.Facts.{Facts}
+use Rattle.response_rules.specs.Facts.{AreFactsOf}
+use Rattle.response_rules.specs.Reads.{head_of}
 use Rattle.http_exchange.specs.Reading.{ReadsResponseHead}
 use Rattle.http_exchange.specs.Heads.{IsResponse}
 use Rattle.http_exchange.specs.Fields.{pairs_of}
@@ -13,16 +14,16 @@ use Rattle.response_rules.specs.Heads.{HasEssence}
 use Rattle.orb_engine.specs.declared.settings.Settings.{Settings}
 use Rattle.orb_engine.specs.declared.engine.states.Asked.{Asked}
 
--- the head says this, and the decider was made of it
-pub record ReadsWell (asked : Asked) (s : Settings) (head : List ℕ) (decider : Decider) (frame : BodyFrame) : Type 0 where
+-- the head says this, and these are the facts of its response
+pub record ReadsWell (asked : Asked) (s : Settings) (head : List ℕ) (read : Facts) (frame : BodyFrame) : Type 0 where
   pub tree : ResponseHead
   pub is : IsResponse head tree
   pub framed : frame_of asked.asks.is_head (status_code tree) (pairs_of tree.fields) ≡ Ok frame
   pub essence : Option (List ℕ × List ℕ)
   pub states : HasEssence (pairs_of tree.fields) essence
-  pub new : DeciderHasRead decider
-      (head_of s.policy asked.state asked.asks.opaque (status_code tree) (pairs_of tree.fields) s.limit essence) []
+  pub facts : AreFactsOf read
+      (head_of s.policy asked.state asked.asks.opaque (status_code tree) (pairs_of tree.fields) s.limit essence)
 
-abbrev pub ReadsResponse : Asked → Settings → List ℕ → Result (Decider × BodyFrame) BadKind → Type 0
+abbrev pub ReadsResponse : Asked → Settings → List ℕ → Result (Facts × BodyFrame) BadKind → Type 0
 ReadsResponse asked s head (Ok read) = ReadsWell asked s head read.0 read.1
 ReadsResponse asked s head (Err kind) = ReadsResponseHead head asked.asks.is_head (Err kind)

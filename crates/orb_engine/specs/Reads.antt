@@ -18,7 +18,7 @@ use Rattle.orb_engine.specs.declared.engine.states.State.{State}
 use Rattle.orb_engine.specs.declared.engine.states.State.TheVariants as state
 use Rattle.orb_engine.specs.declared.outcome.EngineOutcome.{EngineOutcome}
 use Rattle.orb_engine.specs.declared.outcome.EngineOutcome.TheVariants as outcome
-use Rattle.response_rules.specs.declared.deciding.Decider.{Decider}
+use Rattle.response_rules.specs.declared.facts.Facts.{Facts}
 use Rattle.body_filter.specs.Responses.{Response}
 use Rattle.http_exchange.specs.declared.frames.BodyFrame.{BodyFrame}
 use Rattle.http_exchange.specs.HeadTexts.{IsHeadText}
@@ -30,7 +30,7 @@ use Rattle.orb_engine.specs.Ends as ends
 use Rattle.orb_engine.specs.Ends.{End, stop_of}
 use Rattle.orb_engine.specs.Outputs.{output_of, written_exchanges, written_so_far}
 use Rattle.orb_engine.specs.Counts.{rules_of_exchanges, rules_of, count_allowed, count_blocked}
-use Rattle.orb_engine.specs.Workers.{IsNewFor}
+use Rattle.orb_engine.specs.Workers.{AreFactsFor}
 use Rattle.orb_engine.specs.Writing.{IsWriterFor, WriterReads, gathered_by}
 
 -- the numbers of exchanges that these rules decide
@@ -250,15 +250,15 @@ abbrev pub head_offset_of : State → Engine → ℕ
 head_offset_of (state.ResponseHead asked) e = asked.offset
 head_offset_of t e = e.progress.offset
 
--- it was read whole, and this is a decider for its response, with its frame
-pub record HasReadHeads (asked : AskedRequest) (read : Decider × BodyFrame) (e : Engine) (s : Settings) (m given : List ℕ) : Type 0
+-- it was read whole, and these are the facts of its response, with its frame
+pub record HasReadHeads (asked : AskedRequest) (read : Facts × BodyFrame) (e : Engine) (s : Settings) (m given : List ℕ) : Type 0
   where
     pub whole : HasResponse IsHeadText asked e s m given
     pub response : ResponseText
     pub bytes : response.bytes ≡ whole.head
     pub good : IsResponseHead whole.request.asks.is_head response
     pub frame_is : read.1 ≡ response.frame
-    pub new : IsNewFor read.0 s (judged_by s (table_of whole.exchanges) (record { request = whole.request; response = response }))
+    pub facts : AreFactsFor read.0 s (judged_by s (table_of whole.exchanges) (record { request = whole.request; response = response }))
 
 -- what `Fills` says, where it is in a body
 abbrev pub FillsAt : State → Engine → Settings → List ℕ → List ℕ → Type 0

@@ -8,5 +8,4 @@ use Rattle.orb_engine.specs.Workers.{IsWorkerFor}
 
 pub IsWorkerFor-prop : (w : Worker) (s : Settings) → IsProp (IsWorkerFor w s)
 IsWorkerFor-prop (worker.Filters f) s = hlevel (⊎_set, props)
-IsWorkerFor-prop worker.Explains s = hlevel (⊎_set, props)
-IsWorkerFor-prop (worker.Explaining d) s = hlevel (⊎_set, props)
+IsWorkerFor-prop (worker.Explains d) s = hlevel (⊎_set, props)

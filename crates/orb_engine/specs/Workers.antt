@@ -1,6 +1,7 @@
 -- What works on one response, and what it puts, by either job.
-use Rattle.std.specs.Prelude.{◌≡◌, ℕ, List, []}
-use Rattle.response_rules.specs.declared.deciding.Decider.{Decider}
+use Rattle.std.specs.Prelude.{◌≡◌, ℕ, List}
+use Rattle.response_rules.specs.declared.facts.Facts.{Facts}
+use Rattle.response_rules.specs.Facts.{AreFactsOf}
 use Rattle.response_rules.specs.Heads.{Head}
 use Rattle.response_rules.specs.Reads.{HasRead as DeciderHasRead}
 use Rattle.body_filter.specs.Responses.{Response}
@@ -13,21 +14,19 @@ use Rattle.orb_engine.specs.declared.worker.Worker.TheVariants as worker
 -- the worker does the job of these settings
 abbrev pub IsWorkerFor : Worker → Settings → Type 0
 IsWorkerFor (worker.Filters f) s = (s.job ≡ job.Filter) × (limit_of f ≡ s.limit)
-IsWorkerFor worker.Explains s = s.job ≡ job.Explain
-IsWorkerFor (worker.Explaining d) s = s.job ≡ job.Explain
+IsWorkerFor (worker.Explains d) s = s.job ≡ job.Explain
 
 -- it has read this prefix of the body of the response
 abbrev pub WorkerReads : Worker → Response → List ℕ → Type 0
 WorkerReads (worker.Filters f) x m = FilterHasRead f x m
-WorkerReads worker.Explains x m = ⊥
-WorkerReads (worker.Explaining d) x m = DeciderHasRead d x.head m
+WorkerReads (worker.Explains d) x m = DeciderHasRead d x.head m
 
 -- the worker of these settings has read it
 pub record Works (w : Worker) (s : Settings) (x : Response) (m : List ℕ) : Type 0 where
   pub is_for : IsWorkerFor w s
   pub reads : WorkerReads w x m
 
--- a decider that is new, for a response that is read for a script as far as the settings say
-pub record IsNewFor (d : Decider) (s : Settings) (h : Head) : Type 0 where
-  pub reads : DeciderHasRead d h []
+-- the facts of a response that is read for a script as far as the settings say
+pub record AreFactsFor (facts : Facts) (s : Settings) (h : Head) : Type 0 where
+  pub of_head : AreFactsOf facts h
   pub limit : h.limit ≡ s.limit

@@ -9,7 +9,7 @@ use http_exchange::{
     BadKind, BodyFrame, HeadReader, HeadTaken, RequestHead, read_request, read_response,
 };
 use orb_io::NoMemory;
-use response_rules::Decider;
+use response_rules::Facts;
 use std::alloc::Global;
 use std::marker::Model;
 
@@ -88,12 +88,12 @@ impl Heads {
         read_request(self.gathered.as_slice(), &mut self.scratch)
     }
 
-    /// Reads the bytes as the response head that answers a request: how its body is framed, and a decider for it.
+    /// Reads the bytes as the response head that answers a request: what the rules ask of it, and how its body is framed.
     pub(crate) fn response(
         &mut self,
         asked: Asked,
         settings: Settings,
-    ) -> Result<(Decider, BodyFrame), BadKind>
+    ) -> Result<(Facts, BodyFrame), BadKind>
         ensures reads { ReadsResponse asked settings self.old result }
         ensures same { self.new ≡ self.old }
     {
@@ -104,7 +104,7 @@ impl Heads {
             &mut self.scratch,
         ) {
             Ok(response) => {
-                let decider = Decider::new(
+                let facts = Facts::read(
                     settings.policy,
                     asked.state,
                     asked.asks.opaque,
@@ -113,7 +113,7 @@ impl Heads {
                     &mut self.scratch,
                     settings.limit,
                 );
-                Ok((decider, response.frame))
+                Ok((facts, response.frame))
             }
             Err(kind) => Err(kind),
         }

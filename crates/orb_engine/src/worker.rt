@@ -10,7 +10,7 @@ use crate::lines::line;
 use crate::settings::{Job, Settings};
 use body_filter::{Filter, WriteFault};
 use orb_io::{NoMemory, Sink};
-use response_rules::{Decider, Verdict};
+use response_rules::{Decider, Facts, Verdict};
 use std::alloc::Global;
 
 /// What works on responses, one at a time.
@@ -18,17 +18,15 @@ use std::alloc::Global;
 pub(crate) enum Worker {
     /// Passes on what is allowed.
     Filters(Filter),
-    /// Writes a line for each response, and is in none.
-    Explains,
-    /// Writes a line for the response that it decides.
-    Explaining(Decider),
+    /// Writes a line for each response.
+    Explains(Decider),
 }
 
 impl Worker {
     ghost use Rattle.std.specs.Prelude.{IfOk};
     ghost use Rattle.orb_engine.specs.declared.settings.Settings.{Settings};
     ghost use Rattle.orb_engine.specs.Outputs.{written_so_far, written_whole};
-    ghost use Rattle.orb_engine.specs.Workers.{IsWorkerFor, IsNewFor, Works};
+    ghost use Rattle.orb_engine.specs.Workers.{IsWorkerFor, AreFactsFor, Works};
 
     /// One that does the job of the settings.
     pub(crate) fn open(alloc: Global, settings: Settings) -> Result<Worker, NoMemory>
@@ -41,21 +39,21 @@ impl Worker {
                 Ok(filter) => Ok(Worker::Filters(filter)),
                 Err(_) => Err(NoMemory),
             },
-            Job::Explain => Ok(Worker::Explains),
+            Job::Explain => Ok(Worker::Explains(Decider::idle())),
         }
     }
 
-    /// Begins a response with a new decider.
+    /// Begins a response with these facts.
     pub(crate) fn begin<O: Sink>(
         &mut self,
-        decider: Decider,
+        facts: Facts,
         head: &[u8],
         chunked: bool,
         sink: &mut O,
     ) -> Result<(), WriteFault>
         requires short { length head.now ≤ 65536 }
-        requires made { (s : Settings) × (h : Head) × IsWorkerFor self.old s × IsNewFor decider s h }
-        ensures delivers { (s : Settings) (h : Head) → IsWorkerFor self.old s → IsNewFor decider s h
+        requires made { (s : Settings) × (h : Head) × IsWorkerFor self.old s × AreFactsFor facts s h }
+        ensures delivers { (s : Settings) (h : Head) → IsWorkerFor self.old s → AreFactsFor facts s h
             → Delivers result (O.told sink.old) (O.told sink.new)
             [] (written_so_far s.job (response_of h head.now chunked) [])
             (λ _. Works self.new s (response_of h head.now chunked) []) }
@@ -63,13 +61,9 @@ impl Worker {
         ensures worker { (s : Settings) → IsWorkerFor self.old s → IsWorkerFor self.new s }
     {
         match self {
-            Worker::Filters(filter) => filter.begin(decider, head, chunked, sink),
-            Worker::Explains => {
-                *self = Worker::Explaining(decider);
-                Ok(())
-            }
-            Worker::Explaining(last) => {
-                *last = decider;
+            Worker::Filters(filter) => filter.begin_with(facts, head, chunked, sink),
+            Worker::Explains(decider) => {
+                decider.begin(facts);
                 Ok(())
             }
         }
@@ -87,11 +81,10 @@ impl Worker {
     {
         match self {
             Worker::Filters(filter) => filter.feed(body, sink),
-            Worker::Explaining(decider) => {
+            Worker::Explains(decider) => {
                 let _progress = decider.feed(body);
                 Ok(())
             }
-            Worker::Explains => unreachable!(),
         }
     }
 
@@ -111,14 +104,13 @@ impl Worker {
     {
         match self {
             Worker::Filters(filter) => filter.end(sink),
-            Worker::Explaining(decider) => {
+            Worker::Explains(decider) => {
                 let verdict = decider.finish();
                 match sink.push(line(number, verdict.rule, verdict.state, size).as_slice()) {
                     Ok(()) => Ok(verdict),
                     Err(_) => Err(WriteFault),
                 }
             }
-            Worker::Explains => unreachable!(),
         }
     }
 }

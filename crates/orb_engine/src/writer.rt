@@ -16,7 +16,7 @@ use crate::settings::Settings;
 use crate::worker::Worker;
 use body_filter::WriteFault;
 use orb_io::{Failed, NoMemory, Outbox, Sink, push_nonempty};
-use response_rules::{Decider, Verdict};
+use response_rules::{Facts, Verdict};
 use std::alloc::Global;
 
 /// Works on responses, one at a time, and gathers what they write.
@@ -38,7 +38,7 @@ impl Writer {
     ghost use Rattle.orb_engine.specs.declared.settings.Settings.{Settings};
     ghost use Rattle.orb_io.specs.Outboxes.{empty_outbox};
     ghost use Rattle.orb_engine.specs.Outputs.{written_so_far, written_whole};
-    ghost use Rattle.orb_engine.specs.Workers.{IsNewFor};
+    ghost use Rattle.orb_engine.specs.Workers.{AreFactsFor};
     ghost use Rattle.orb_engine.specs.Writing.{IsWriterFor, WriterReads, CanGoOn, Passes, IsSameBut, box_of, gathered_by, body_of};
 
     /// One whose worker does the job of the settings.
@@ -82,17 +82,17 @@ impl Writer {
         }
     }
 
-    /// Begins a response with a new decider.
+    /// Begins a response with these facts.
     pub(crate) fn begin<O: Sink>(
         &mut self,
-        decider: Decider,
+        facts: Facts,
         head: &[u8],
         chunked: bool,
         output: &mut O,
     ) -> Result<(), WriteFault>
         requires short { length head.now ≤ 65536 }
-        requires made { (s : Settings) × (h : Head) × IsWriterFor self.old s × IsNewFor decider s h }
-        ensures passes { (s : Settings) (h : Head) (given : List ℕ) → IsWriterFor self.old s → IsNewFor decider s h
+        requires made { (s : Settings) × (h : Head) × IsWriterFor self.old s × AreFactsFor facts s h }
+        ensures passes { (s : Settings) (h : Head) (given : List ℕ) → IsWriterFor self.old s → AreFactsFor facts s h
             → Gives (O.told output.old) (O.told output.new) given (Passes result self.new
             ((given ++ gathered_by self.old) ++ written_so_far s.job (response_of h head.now chunked) [])
             (λ _. WriterReads self.new s (response_of h head.now chunked) [])) }
@@ -102,13 +102,13 @@ impl Writer {
         self.head = head.len() as u64;
         self.body = 0;
         if self.outbox.has_room(self.head) {
-            match self.worker.begin(decider, head, chunked, &mut self.outbox) {
+            match self.worker.begin(facts, head, chunked, &mut self.outbox) {
                 Ok(()) => Ok(()),
                 Err(_) => unreachable!(),
             }
         } else {
             match self.flush(output) {
-                Ok(()) => self.worker.begin(decider, head, chunked, output),
+                Ok(()) => self.worker.begin(facts, head, chunked, output),
                 Err(fault) => Err(fault),
             }
         }

@@ -115,6 +115,16 @@ hopeless-longer h m more dead dead' stays is = by (ways h m dead is)
         hopeless_by_text h (m ++ more) dead' (text-longer h m more t)
         (or_second (nat_lt h.limit (length (m ++ more))) dead' (stays d))
 
+-- before the window is full, only a rule makes it so
+pub hopeless-filled : (h : Head) (m more : List ℕ) (dead dead' : Bool) → is_full m ≡ false → is_hopeless h m dead ≡ true
+    → is_hopeless h (m ++ more) dead' ≡ true
+hopeless-filled h m more dead dead' short is = by (ways h m dead is)
+  where
+    by : Ways h m dead → is_hopeless h (m ++ more) dead' ≡ true
+    by (by_rule b) = hopeless_by_rule h (m ++ more) dead' (blocked-longer h m more b)
+    by (by_limit t o) = absurd (cc (text_full h m t, short))
+    by (by_death t d) = absurd (cc (text_full h m t, short))
+
 pub hopeless-unsent : (h : Head) (m : List ℕ) (dead : Bool) → is_hopeless h m dead ≡ true → is_sent h m ≡ false
 hopeless-unsent h m dead is = by (ways h m dead is)
   where
@@ -138,8 +148,7 @@ alive_script t m reads is = by (is_dead t) refl
 -- what the script test of a decider has read
 pub text_read : (d : Decider) (h : Head) (m : List ℕ) → HasRead d h m → is_in_text h m ≡ true → nat_lt h.limit (length m) ≡ false
     → ScriptHasRead d.text.script m
-text_read d h m reads text within =
-    subst (λ (u : List ℕ). ScriptHasRead d.text.script u) (ap (λ b. if b then m else []) text) (reads.text within).script
+text_read d h m reads text within = (reads.text within text).script
 
 pub hopeless-blocks : (d : Decider) (h : Head) (m more : List ℕ) → HasRead d h m → is_hopeless h m (is_script_dead d) ≡ true
     → is_allowing (rule_of h (m ++ more)) ≡ false

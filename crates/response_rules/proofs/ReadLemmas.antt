@@ -9,12 +9,12 @@ use Rattle.response_rules.specs.declared.text.TextTest.{TextTest}
 use Rattle.response_rules.specs.declared.deciding.Count.{Count}
 use Rattle.response_rules.specs.declared.deciding.Decider.{Decider}
 use Rattle.response_rules.specs.Heads.{Head}
-use Rattle.response_rules.specs.Reads.{HasCounted, Stands, TextHasRead, text_of}
+use Rattle.response_rules.specs.Reads.{HasCounted, Stands}
 use Rattle.response_rules.specs.Tables.{window_size, window_of, early_rule}
 use Rattle.response_rules.specs.Settled.{is_full, is_in_text, rule_in_window, settled_rule}
 use Rattle.response_rules.proofs.TableLemmas.{early-halves}
 use Rattle.response_rules.proofs.SettledLemmas.{full_longer, window_longer, settled-short, settled-whole, settled-full}
-use Rattle.response_rules.proofs.HopelessLemmas.{early-longer, text-longer}
+use Rattle.response_rules.proofs.HopelessLemmas.{early-longer}
 
 -- as much of a text as there is room for
 pub filled : (xs ys : List ℕ) (room n : ℕ) → room + length xs ≡ n → xs ++ take room ys ≡ take n (xs ++ ys)
@@ -107,36 +107,10 @@ stands_full d e h m p facts settled window finished full r = record {
   active = finished ∙ r.active;
 }
 
--- what is text of it
-pub text_same : (h : Head) (m : List ℕ) → is_in_text h m ≡ true → text_of h m ≡ m
-text_same h m is = ap (λ b. if b then m else []) is
-
-pub text_none : (h : Head) (m : List ℕ) → is_in_text h m ≡ false → text_of h m ≡ []
-text_none h m is = ap (λ b. if b then m else []) is
-
-text_still : (h : Head) (m p : List ℕ) → is_full m ≡ true → is_in_text h (m ++ p) ≡ is_in_text h m
+-- whether it is read as text
+pub text_still : (h : Head) (m p : List ℕ) → is_full m ≡ true → is_in_text h (m ++ p) ≡ is_in_text h m
 unfolding is_in_text
 text_still h m p full = rw (full_longer m p full, full, early-longer h m p full) refl
-
-pub text_on : (t : TextTest) (h : Head) (m p : List ℕ) → is_in_text h m ≡ true → TextHasRead t (text_of h m ++ p) → TextHasRead t (text_of h (m ++ p))
-text_on t h m p is reads =
-    subst (TextHasRead t) (ap (λ u. u ++ p) (text_same h m is) ∙ sym (text_same h (m ++ p) (text-longer h m p is))) reads
-
-pub text_off : (t : TextTest) (h : Head) (m p : List ℕ) → is_full m ≡ true → is_in_text h m ≡ false → TextHasRead t (text_of h m)
-    → TextHasRead t (text_of h (m ++ p))
-text_off t h m p full not_text reads =
-    subst (TextHasRead t) (text_none h m not_text ∙ sym (text_none h (m ++ p) (text_still h m p full ∙ not_text))) reads
-
--- the window is full now: of what is text, it is the first part
-pub text_begins : (t : TextTest) (h : Head) (m p w rest : List ℕ) → is_in_text h m ≡ false → is_in_text h (m ++ p) ≡ true → m ++ p ≡ w ++ rest
-    → TextHasRead t ((text_of h m ++ w) ++ rest) → TextHasRead t (text_of h (m ++ p))
-text_begins t h m p w rest not_text is cut reads =
-    subst (TextHasRead t) (ap (λ u. (u ++ w) ++ rest) (text_none h m not_text) ∙ sym cut ∙ sym (text_same h (m ++ p) is)) reads
-
-pub text_waits : (t : TextTest) (h : Head) (m p : List ℕ) → is_in_text h m ≡ false → is_in_text h (m ++ p) ≡ false → TextHasRead t (text_of h m)
-    → TextHasRead t (text_of h (m ++ p))
-text_waits t h m p not_text still reads =
-    subst (TextHasRead t) (text_none h m not_text ∙ sym (text_none h (m ++ p) still)) reads
 
 -- a body whose window isn't full is its window
 pub window_whole : (m : List ℕ) → is_full m ≡ false → window_of m ≡ m

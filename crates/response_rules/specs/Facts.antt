@@ -1,10 +1,10 @@
--- What a decider keeps of a head.
+-- What a decider keeps of a response but its body.
 use Rattle.std.specs.Prelude.{◌≡◌, ℕ, List, Option, is_some}
 use Rattle.mime_types.specs.Sets.{is_safelisted_type, is_never_sniffed_type, is_blocklisted_type, is_plain_text_type, is_html_type, is_xml_type, is_json_type, is_media_type}
 use Rattle.header_values.specs.Questions.{is_nosniff, is_coded}
 use Rattle.response_rules.specs.declared.groups.Groups.{Groups}
 use Rattle.response_rules.specs.declared.facts.Facts.{Facts}
-use Rattle.response_rules.specs.Heads.{Head, HasEssence, is_in, has_first}
+use Rattle.response_rules.specs.Heads.{Head, HasEssence, IsHead, is_in, has_first}
 
 -- the groups of an essence; of none no group
 abbrev pub groups_of : Option (List ℕ × List ℕ) → Groups
@@ -36,4 +36,10 @@ facts_of h = record {
   nosniff = is_nosniff h.fields;
   coded = is_coded h.fields;
   from_first = has_first h.fields;
+  limit = h.limit;
 }
+
+-- these are the facts of a response with this head
+pub record AreFactsOf (facts : Facts) (h : Head) : Type 0 where
+  pub states : IsHead h
+  pub are : facts ≡ facts_of h

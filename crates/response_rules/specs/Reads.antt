@@ -1,5 +1,5 @@
 -- What a decider has read of a response.
-use Rattle.std.specs.Prelude.{◌≡◌, ℕ, ◌-◌, Bool, false, nat_lt, if◌then◌else◌, List, [], length, Option}
+use Rattle.std.specs.Prelude.{◌≡◌, ℕ, ◌-◌, Bool, false, true, nat_lt, if◌then◌else◌, List, length, Option}
 use Rattle.media_state.specs.declared.states.MediaState.{MediaState}
 use Rattle.json_recogniser.specs.JsonTest.{HasRead as JsonHasRead}
 use Rattle.es5_machine.specs.ScriptTests.{HasRead as ScriptHasRead, is_dead}
@@ -41,10 +41,6 @@ pub record TextHasRead (t : TextTest) (m : List ℕ) : Type 0 where
   pub script : ScriptHasRead t.script m
   pub json : is_dead t.script ≡ false → JsonHasRead t.json m
 
--- what is read as text of a body: all of it once the window doesn't decide, and nothing before
-abbrev pub text_of : Head → List ℕ → List ℕ
-text_of h m = if is_in_text h m then m else []
-
 -- the script test that a decider holds
 abbrev pub script_of : Decider → ScriptTest
 script_of d = d.text.script
@@ -66,9 +62,9 @@ pub record Stands (d : Decider) (h : Head) (m : List ℕ) : Type 0 where
   pub window : d.window.items ≡ window_of m
   pub active : d.finished ≡ false
 
--- it has read what is text of the body, unless that is over the limit
+-- it has read the body, where that is text and not over the limit
 abbrev pub TextStands : Decider → Head → List ℕ → (over : Bool) → Type 0
-TextStands d h m over = over ≡ false → TextHasRead d.text (text_of h m)
+TextStands d h m over = over ≡ false → is_in_text h m ≡ true → TextHasRead d.text m
 
 -- the decider was made for a response with this head, and has read this prefix of its body
 pub record HasRead (d : Decider) (h : Head) (m : List ℕ) : Type 0 where

@@ -7,14 +7,13 @@ ghost use Rattle.response_rules.specs.Rules.{is_allowing};
 ghost use Rattle.response_rules.specs.Settled.{is_some_rule};
 ghost use Rattle.response_rules.specs.Reads.{progress_of};
 
-use crate::facts::{Facts, is_from_first};
-use crate::groups::read_groups;
+use crate::facts::Facts;
 use crate::rules::Rule;
 use crate::tables::{rule_of_head, rule_of_window};
 use crate::text::TextTest;
 use crate::verdicts::{Policy, Progress, Verdict};
 use arrayvec::ArrayVec;
-use header_values::{Fields, Scratch, coded, nosniff};
+use header_values::{Fields, Scratch};
 use media_state::{MediaState, after};
 
 /// How many bytes of a body are looked at for its type.
@@ -60,6 +59,7 @@ pub struct Decider {
     settled: Option<Rule>,
     window: ArrayVec<u8, WINDOW>,
     count: Count,
+    // Begun where the body is read as text, and not before.
     text: TextTest,
     finished: bool,
 }
@@ -70,6 +70,7 @@ impl Decider {
     ghost use Rattle.response_rules.specs.Heads.{Head, HasEssence};
     ghost use Rattle.response_rules.specs.Tables.{rule_of};
     ghost use Rattle.response_rules.specs.Settled.{is_sent, is_in_text, is_hopeless};
+    ghost use Rattle.response_rules.specs.Facts.{AreFactsOf};
     ghost use Rattle.response_rules.specs.Reads.{HasRead, CanFinish, IsVerdict, head_of, is_script_dead};
 
     /// A decider for a response: the rules that judge it, its status and fields, the state of the media resource that the
@@ -91,24 +92,44 @@ impl Decider {
         ensures one { (essence : Option (List ℕ × List ℕ)) × HasEssence (pairs_in fields.now) essence }
         ensures kept { scratch.new ≡ scratch.old }
     {
-        let facts = Facts {
-            policy,
-            state,
-            opaque,
-            status,
-            nosniff: nosniff(fields, scratch),
-            coded: coded(fields, scratch),
-            from_first: is_from_first(fields, scratch),
-            groups: read_groups(fields, scratch),
-        };
+        Decider::of(Facts::read(
+            policy, state, opaque, status, fields, scratch, limit,
+        ))
+    }
+
+    /// A decider for a response with these facts.
+    pub fn of(facts: Facts) -> Decider
+        ensures { (h : Head) → AreFactsOf facts h → HasRead result h [] }
+    {
+        let mut decider = Decider::idle();
+        decider.begin(facts);
+        decider
+    }
+
+    /// A decider for no response: it takes only `begin`.
+    pub fn idle() -> Decider
+        ensures { (h : Head) (m : List ℕ) → HasRead result h m → ⊥ }
+    {
         Decider {
-            settled: rule_of_head(&facts),
-            facts,
+            settled: None,
+            facts: Facts::idle(),
             window: ArrayVec::new(),
-            count: Count::new(limit),
+            count: Count::new(0),
             text: TextTest::new(),
-            finished: false,
+            finished: true,
         }
+    }
+
+    /// Begins a response with these facts, in the place of any other. The decider isn't moved, and what only
+    /// texts need isn't touched: so one decider may serve many responses, and each short one costs little.
+    pub fn begin(&mut self, facts: Facts)
+        ensures { (h : Head) → AreFactsOf facts h → HasRead self.new h [] }
+    {
+        self.settled = rule_of_head(&facts);
+        self.window.clear();
+        self.count = Count::new(facts.limit);
+        self.finished = false;
+        self.facts = facts;
     }
 
     /// Reads the next piece of the body, and tells how far the judgement is. Once nothing can allow the response, it stays
@@ -198,13 +219,13 @@ impl Decider {
     fn fill(&mut self, piece: &[u8], over: bool)
         ensures stands { (h : Head) (m : List ℕ) → is_full m ≡ false → Stands self.old h m → Stands self.new h (m ++ piece.now) }
         ensures text { (h : Head) (m : List ℕ) → is_full m ≡ false → Stands self.old h m
-            → TextStands self.old h m over → TextStands self.new h (m ++ piece.now) over }
-        ensures dead { is_script_dead self.old ≡ true → is_script_dead self.new ≡ true }
+            → TextStands self.new h (m ++ piece.now) over }
     {
         let rest = fill(&mut self.window, piece);
         if self.window.is_full() {
             self.settled = self.judged();
             if self.settled.is_none() && !over {
+                self.text = TextTest::new();
                 self.text.feed(self.window.as_slice());
                 self.text.feed(rest);
             }
@@ -240,6 +261,7 @@ impl Decider {
             return Rule::BodyLimit;
         }
         if !self.window.is_full() {
+            self.text = TextTest::new();
             self.text.feed(self.window.as_slice());
         }
         self.text.finish()

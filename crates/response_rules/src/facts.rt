@@ -1,17 +1,17 @@
-//! What the rules ask of a head.
+//! What the rules ask of a response but its body.
 ghost use Rattle.std.specs.Prelude.{◌≡◌, ◌≤◌, length};
 ghost use Rattle.header_values.specs.Fields.{AreOfHead, pairs_in};
 ghost use Rattle.response_rules.specs.Heads.{has_first, is_first};
 ghost use Rattle.media_state.specs.Range.{range_of};
 
-use crate::groups::Groups;
+use crate::groups::{Groups, read_groups};
 use crate::verdicts::Policy;
-use header_values::{Fields, Scratch};
+use header_values::{Fields, Scratch, coded, nosniff};
 use media_state::{MediaState, read_content_range};
 
-/// What the rules ask of a head.
+/// What the rules ask of a response but its body: its head is read once, and not kept.
 #[derive(Clone, Copy)]
-pub(crate) struct Facts {
+pub struct Facts {
     /// The rules that judge.
     pub(crate) policy: Policy,
     /// The state of the request's media resource before the response.
@@ -28,11 +28,67 @@ pub(crate) struct Facts {
     pub(crate) coded: bool,
     /// Content-Range gives a range from the first byte on.
     pub(crate) from_first: bool,
+    /// How many bytes of a body are read for a script.
+    pub(crate) limit: u64,
+}
+
+impl Facts {
+    ghost use Rattle.std.specs.Prelude.{ℕ, List, Option};
+    ghost use Rattle.response_rules.specs.Heads.{HasEssence};
+    ghost use Rattle.response_rules.specs.Facts.{AreFactsOf};
+    ghost use Rattle.response_rules.specs.Reads.{head_of};
+
+    /// The facts of a response: the rules that judge it, the state of the media resource that the request is for,
+    /// whether the request is opaque, the status and fields of its head, and how many bytes of a body are read for a script.
+    /// The scratch needs room for the head.
+    pub fn read(
+        policy: Policy,
+        state: MediaState,
+        opaque: bool,
+        status: u16,
+        fields: &Fields,
+        scratch: &mut Scratch,
+        limit: u64,
+    ) -> Facts
+        requires fields { AreOfHead fields.now }
+        requires room { length fields.now.head.now ≤ scratch.old }
+        ensures facts { (essence : Option (List ℕ × List ℕ)) → HasEssence (pairs_in fields.now) essence
+            → AreFactsOf result (head_of policy state opaque status (pairs_in fields.now) limit essence) }
+        ensures one { (essence : Option (List ℕ × List ℕ)) × HasEssence (pairs_in fields.now) essence }
+        ensures kept { scratch.new ≡ scratch.old }
+    {
+        Facts {
+            policy,
+            state,
+            opaque,
+            status,
+            nosniff: nosniff(fields, scratch),
+            coded: coded(fields, scratch),
+            from_first: is_from_first(fields, scratch),
+            groups: read_groups(fields, scratch),
+            limit,
+        }
+    }
+
+    /// Those of a response that no rule judges, since the request isn't opaque.
+    pub(crate) fn idle() -> Facts {
+        Facts {
+            policy: Policy::Orb,
+            state: MediaState::Na,
+            opaque: false,
+            status: 0,
+            nosniff: false,
+            coded: false,
+            from_first: false,
+            groups: Groups::NONE,
+            limit: 0,
+        }
+    }
 }
 
 /// Whether Content-Range gives a range that begins at the first byte.
 #[tactic(auto, unfolding(crate::specs::Heads::has_first))]
-pub(crate) fn is_from_first(fields: &Fields, scratch: &mut Scratch) -> bool
+fn is_from_first(fields: &Fields, scratch: &mut Scratch) -> bool
     requires fields { AreOfHead fields.now }
     requires room { length fields.now.head.now ≤ scratch.old }
     ensures value { result ≡ has_first (pairs_in fields.now) }

@@ -32,6 +32,21 @@ pub(crate) struct Groups {
     pub(crate) media: bool,
 }
 
+impl Groups {
+    /// Those where no type is stated.
+    pub(crate) const NONE: Groups = Groups {
+        typed: false,
+        safelisted: false,
+        never_sniffed: false,
+        blocklisted: false,
+        plain_text: false,
+        html: false,
+        xml: false,
+        json: false,
+        media: false,
+    };
+}
+
 /// The groups of the type that the fields state.
 pub(crate) fn read_groups(fields: &Fields, scratch: &mut Scratch) -> Groups
     requires fields { AreOfHead fields.now }
@@ -51,16 +66,6 @@ pub(crate) fn read_groups(fields: &Fields, scratch: &mut Scratch) -> Groups
             json: is_json(&essence),
             media: is_media(&essence),
         },
-        None => Groups {
-            typed: false,
-            safelisted: false,
-            never_sniffed: false,
-            blocklisted: false,
-            plain_text: false,
-            html: false,
-            xml: false,
-            json: false,
-            media: false,
-        },
+        None => Groups::NONE,
     }
 }

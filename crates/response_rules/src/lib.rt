@@ -20,6 +20,7 @@ mod text;
 mod verdicts;
 
 pub use deciding::Decider;
+pub use facts::Facts;
 pub use laws::{
     blocked_is_for_good, hopeless_is_for_good, judgement_is_settled, one_essence,
     open_body_is_short, rule_is_computed, sent_is_for_good, settled_is_computed,

@@ -9,8 +9,8 @@
 //!
 //! - `RequestHead`: the bytes of the head so far are gathered. Once it is whole it is read, and the state of its
 //!   media resource is looked up (`read_request`).
-//! - `ResponseHead`: likewise, and what the request said is kept. Once the head is whole it is read, a decider is
-//!   made of it, and the writer begins with the response (`read_response`, `begin_body`).
+//! - `ResponseHead`: likewise, and what the request said is kept. Once the head is whole it is read, and
+//!   the writer begins with the response (`read_response`, `begin_body`).
 //! - `Body`: the unframer takes the bytes, and their content goes to the writer (`take_body`). Once the body
 //!   is whole, which that of some responses is at once, the exchange is closed: the writer ends, the
 //!   media state is kept, and the next exchange begins (`settle_body`, `close`).
@@ -29,7 +29,7 @@ use crate::outcome::EngineOutcome;
 use http_exchange::{BadKind, BodyFrame, HeadTaken, RequestHead, Taken, Unframer};
 use media_state::MediaState;
 use orb_io::Sink;
-use response_rules::Decider;
+use response_rules::Facts;
 
 /// What an engine reads next.
 #[derive(Drop)]
@@ -229,7 +229,7 @@ impl Engine {
         ensures settings { self.new.writer.settings ≡ self.old.writer.settings }
     {
         match self.head.response(asked, self.writer.settings) {
-            Ok((decider, frame)) => self.begin_body(asked, decider, frame, output),
+            Ok((facts, frame)) => self.begin_body(asked, facts, frame, output),
             Err(kind) => Err(EngineOutcome::Bad {
                 kind,
                 place: asked.offset,
@@ -241,20 +241,20 @@ impl Engine {
     fn begin_body<O: Sink>(
         &mut self,
         asked: Asked,
-        decider: Decider,
+        facts: Facts,
         frame: BodyFrame,
         output: &mut O,
     ) -> Result<(), EngineOutcome>
-        requires can { Meets (HasReadHeads asked (decider, frame) self.old) }
+        requires can { Meets (HasReadHeads asked (facts, frame) self.old) }
         requires few { self.old.progress.taken ≤ 2 ^ 62 }
         ensures goes { Goes O.Sink result output.old output.new
-            (HasReadHeads asked (decider, frame) self.old) (Settles result self.new) }
+            (HasReadHeads asked (facts, frame) self.old) (Settles result self.new) }
         ensures settings { self.new.writer.settings ≡ self.old.writer.settings }
     {
         let chunked = is_chunked(frame);
         match self
             .writer
-            .begin(decider, self.head.as_slice(), chunked, output)
+            .begin(facts, self.head.as_slice(), chunked, output)
         {
             Ok(()) => {
                 self.state = State::Body(Incoming {

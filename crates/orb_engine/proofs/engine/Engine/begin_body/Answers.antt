@@ -1,5 +1,5 @@
 use Rattle.std.proofs.Common.{◌++◌, refl}
-use Rattle.response_rules.specs.declared.deciding.Decider.{Decider}
+use Rattle.response_rules.specs.declared.facts.Facts.{Facts}
 use Rattle.http_exchange.specs.declared.frames.BodyFrame.{BodyFrame}
 use Rattle.orb_io.proofs.GivesLemmas.{Gives-weaker, Gives-then}
 use Rattle.orb_engine.specs.Heads.{judged_by}
@@ -11,11 +11,11 @@ use Rattle.orb_engine.proofs.engine.Engine.begin_body.Goals as goal
 pub settle_body-requires-clause-can : goal.settle_body-requires-clause-can
 settle_body-requires-clause-can g c =
     let (s, m, given, q) = c.requires.can in
-    let read : Decider × BodyFrame = (c.args.decider, c.args.frame) in
+    let read : Facts × BodyFrame = (c.args.facts, c.args.frame) in
     let h = (begun c.args.asked read c.args.self.now s m given q).heads in
     let x = same-exchange c.args.asked read c.args.self.now s m given q c.as_slice.result.now c.is_chunked-chunked.result
     c.as_slice.ensures.value c.is_chunked-chunked.ensures in
-    let passed = c.in-Ok.ensures.passes s (judged_by s (table_of q.whole.exchanges) h) given q.whole.writer q.new in (
+    let passed = c.in-Ok.ensures.passes s (judged_by s (table_of q.whole.exchanges) h) given q.whole.writer q.facts in (
       s,
       m,
       given ++ passed.more,
@@ -27,11 +27,11 @@ settle_body-requires-clause-can g c =
 pub returns-in-Ok-clause-goes : goal.returns-in-Ok-clause-goes
 returns-in-Ok-clause-goes g c = record {
   gives = λ s m given q.
-      let read : Decider × BodyFrame = (c.args.decider, c.args.frame) in
+      let read : Facts × BodyFrame = (c.args.facts, c.args.frame) in
       let h = (begun c.args.asked read c.args.self.now s m given q).heads in
       let x = same-exchange c.args.asked read c.args.self.now s m given q c.as_slice.result.now c.is_chunked-chunked.result
       c.as_slice.ensures.value c.is_chunked-chunked.ensures in
-      Gives-then _ _ _ given _ _ (c.in-Ok.ensures.passes s (judged_by s (table_of q.whole.exchanges) h) given q.whole.writer q.new)
+      Gives-then _ _ _ given _ _ (c.in-Ok.ensures.passes s (judged_by s (table_of q.whole.exchanges) h) given q.whole.writer q.facts)
       (λ more passed. c.settle_body.ensures.goes.gives s m (given ++ more)
       (begun-fills _ c.args.asked read c.args.self.now _ s m given more q _
       (record { media = refl; offset = refl; taken = refl; counts = refl; told = refl; settings = c.in-Ok.ensures.settings })
@@ -43,7 +43,7 @@ returns-in-Ok-clause-goes g c = record {
 pub returns-in-Err-clause-goes : goal.returns-in-Err-clause-goes
 returns-in-Err-clause-goes g c = record {
   gives = λ s m given q.
-      let read : Decider × BodyFrame = (c.args.decider, c.args.frame) in
+      let read : Facts × BodyFrame = (c.args.facts, c.args.frame) in
       let h = (begun c.args.asked read c.args.self.now s m given q).heads in
       let x = same-exchange c.args.asked read c.args.self.now s m given q c.as_slice.result.now c.is_chunked-chunked.result
       c.as_slice.ensures.value c.is_chunked-chunked.ensures in
@@ -51,7 +51,7 @@ returns-in-Err-clause-goes g c = record {
       begun-breaks c.args.asked read c.args.self.now _ s m given more q _
       (record { media = refl; offset = refl; taken = refl; counts = refl; told = refl; settings = c.in-Err.ensures.settings })
       x within)
-      (c.in-Err.ensures.passes s (judged_by s (table_of q.whole.exchanges) h) given q.whole.writer q.new);
+      (c.in-Err.ensures.passes s (judged_by s (table_of q.whole.exchanges) h) given q.whole.writer q.facts);
   causes = c.in-Err.ensures.calls.cause;
   keeps = c.in-Err.ensures.calls.keeps;
 }

@@ -9,14 +9,14 @@ begin_body-requires-clause-can g c =
       s,
       m,
       given,
-      response-good c.args.asked (c.in-Ok.decider, c.in-Ok.frame) c.args.self.now _ s m given h
+      response-good c.args.asked (c.in-Ok.facts, c.in-Ok.frame) c.args.self.now _ s m given h
           (record { media = refl; offset = refl; counts = refl; told = refl; writer = refl }) c.response.ensures.same refl c.in-Ok.ensures.reads,
     )
 
 pub returns-in-Ok-clause-goes : goal.returns-in-Ok-clause-goes
 returns-in-Ok-clause-goes g c = record {
   gives = λ s m given h.
-      c.begin_body.ensures.goes.gives s m given (response-good c.args.asked (c.in-Ok.decider, c.in-Ok.frame) c.args.self.now _ s m given h
+      c.begin_body.ensures.goes.gives s m given (response-good c.args.asked (c.in-Ok.facts, c.in-Ok.frame) c.args.self.now _ s m given h
       (record { media = refl; offset = refl; counts = refl; told = refl; writer = refl }) c.response.ensures.same refl c.in-Ok.ensures.reads);
   causes = c.begin_body.ensures.goes.causes;
   keeps = c.begin_body.ensures.goes.keeps;

@@ -2,7 +2,7 @@ use Rattle.std.proofs.Common.{◌++◌, ap, ◌∙◌}
 use Rattle.orb_io.proofs.GivesLemmas.{Gives-of, Delivers-fault, Delivers-as}
 use Rattle.body_filter.specs.Responses.{output_so_far, whole_output}
 use Rattle.orb_engine.specs.Outputs.{written_so_far, written_whole}
-use Rattle.orb_engine.proofs.WorkLemmas.{for-filter, for-explaining, reads-filter, reads-explain, so_far-filter, so_far-explain, whole-filter, line-written}
+use Rattle.orb_engine.proofs.WorkLemmas.{for-filter, for-explain, reads-filter, reads-explain, so_far-filter, so_far-explain, whole-filter, line-written}
 use Rattle.orb_engine.proofs.worker.Worker.end.Goals as goal
 
 pub returns-in-Filters-clause-delivers : goal.returns-in-Filters-clause-delivers
@@ -14,8 +14,8 @@ returns-in-Filters-clause-delivers g c = λ s x m works size.
 
 pub returns-in-Ok-clause-delivers : goal.returns-in-Ok-clause-delivers
 returns-in-Ok-clause-delivers g c = λ s x m works size.
-    let it = for-explaining c.args.self.now _ s c.in-Explaining.is works.is_for in
-    let reads = reads-explain c.args.self.now _ x m c.in-Explaining.is works.reads in
+    let it = for-explain c.args.self.now _ s c.in-Explains.is works.is_for in
+    let reads = reads-explain c.args.self.now _ x m c.in-Explains.is works.reads in
     let verdict = c.finish-verdict.ensures.verdict x.head m reads in
     let line = c.as_slice.result.now in
     let owed = line-written c.args.number c.args.size s x m c.finish-verdict.result line it verdict size
@@ -25,8 +25,8 @@ returns-in-Ok-clause-delivers g c = λ s x m works size.
 
 pub returns-in-Err-clause-delivers : goal.returns-in-Err-clause-delivers
 returns-in-Err-clause-delivers g c = λ s x m works size.
-    let it = for-explaining c.args.self.now _ s c.in-Explaining.is works.is_for in
-    let reads = reads-explain c.args.self.now _ x m c.in-Explaining.is works.reads in
+    let it = for-explain c.args.self.now _ s c.in-Explains.is works.is_for in
+    let reads = reads-explain c.args.self.now _ x m c.in-Explains.is works.reads in
     let verdict = c.finish-verdict.ensures.verdict x.head m reads in
     let line = c.as_slice.result.now in
     let owed = line-written c.args.number c.args.size s x m c.finish-verdict.result line it verdict size

@@ -2,7 +2,7 @@ use Rattle.std.proofs.Common.{◌++◌, sym, ◌∙◌}
 use Rattle.orb_io.proofs.GivesLemmas.{Gives-none, Delivers-as}
 use Rattle.body_filter.specs.Responses.{output_so_far}
 use Rattle.orb_engine.specs.Outputs.{written_so_far}
-use Rattle.orb_engine.proofs.WorkLemmas.{for-filter, for-explaining, reads-filter, reads-explain, so_far-filter, so_far-explain}
+use Rattle.orb_engine.proofs.WorkLemmas.{for-filter, for-explain, reads-filter, reads-explain, so_far-filter, so_far-explain}
 use Rattle.orb_engine.proofs.worker.Worker.feed.Goals as goal
 
 pub returns-in-Filters-clause-delivers : goal.returns-in-Filters-clause-delivers
@@ -14,10 +14,10 @@ returns-in-Filters-clause-delivers g c = λ s x m works.
     (λ _ reads. record { is_for = (it.0, c.feed.ensures.limit ∙ it.1); reads = reads })
     (c.feed.ensures.delivers x m (reads-filter c.args.self.now _ x m c.in-Filters.is works.reads))
 
-pub returns-in-Explaining-clause-delivers : goal.returns-in-Explaining-clause-delivers
-returns-in-Explaining-clause-delivers g c = λ s x m works.
-    let it = for-explaining c.args.self.now _ s c.in-Explaining.is works.is_for in
-    let reads = reads-explain c.args.self.now _ x m c.in-Explaining.is works.reads in
+pub returns-in-Explains-clause-delivers : goal.returns-in-Explains-clause-delivers
+returns-in-Explains-clause-delivers g c = λ s x m works.
+    let it = for-explain c.args.self.now _ s c.in-Explains.is works.is_for in
+    let reads = reads-explain c.args.self.now _ x m c.in-Explains.is works.reads in
     Gives-none _ (written_so_far s.job x m) _ (g.met.O.Sink.told_agrees c.args.sink.now) (
       so_far-explain s.job x m it ∙ sym (so_far-explain s.job x (m ++ c.args.body.now) it),
       record { is_for = it; reads = c.feed-progress.ensures.reads x.head m reads },

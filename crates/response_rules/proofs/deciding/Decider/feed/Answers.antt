@@ -1,7 +1,7 @@
 use Rattle.std.proofs.Common.{◌++◌, length, sym, ◌∙◌}
 use Rattle.response_rules.specs.Reads.{TextStands}
 use Rattle.response_rules.proofs.ReadLemmas.{full_by, counted_on, not_over_before}
-use Rattle.response_rules.proofs.HopelessLemmas.{hopeless-longer}
+use Rattle.response_rules.proofs.HopelessLemmas.{hopeless-longer, hopeless-filled}
 use Rattle.response_rules.proofs.deciding.Decider.feed.Goals as goal
 use Rattle.response_rules.proofs.deciding.Decider.feed.Goals.{then-is_full, else-is_full}
 
@@ -26,7 +26,7 @@ returns-clause-reads c = λ h m r.
           rw w.self-is (record {
             stands = record { states = s.states; facts = s.facts; settled = s.settled; window = s.window; active = s.active };
             counted = counted;
-            text = λ within. w.fill.ensures.text h m is r.stands text (counted.over ∙ within);
+            text = λ within. w.fill.ensures.text h m is r.stands (counted.over ∙ within);
           })
     ]
 
@@ -37,5 +37,7 @@ pub returns-clause-hopeless : goal.returns-clause-hopeless
 returns-clause-hopeless c = λ h m r is.
     elim c.if-is_full.branch [
       | then-is_full w ↦ rw w.self-is (hopeless-longer h m c.args.piece.now _ _ w.read_on.ensures.dead is)
-      | else-is_full w ↦ rw w.self-is (hopeless-longer h m c.args.piece.now _ _ w.fill.ensures.dead is)
+      | else-is_full w ↦
+          let short = sym (full_by m _ r.stands.window) ∙ (sym c.is_full.ensures.value ∙ w.if-is_full.false) in
+          rw w.self-is (hopeless-filled h m c.args.piece.now _ _ short is)
     ]

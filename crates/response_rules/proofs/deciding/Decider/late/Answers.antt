@@ -1,8 +1,8 @@
-use Rattle.std.proofs.Common.{◌++◌, sym, ap, subst, ◌∙◌}
-use Rattle.response_rules.specs.Reads.{TextHasRead, text_of}
+use Rattle.std.proofs.Common.{ℕ, List, [], sym, subst, ◌∙◌}
+use Rattle.response_rules.specs.Reads.{TextHasRead}
 use Rattle.response_rules.proofs.TextLemmas.{over_is, text_is}
 use Rattle.response_rules.proofs.HopelessLemmas.{is_text}
-use Rattle.response_rules.proofs.ReadLemmas.{full_by, text_by-short, text_same, text_none, window_whole}
+use Rattle.response_rules.proofs.ReadLemmas.{full_by, window_whole}
 use Rattle.response_rules.proofs.deciding.Decider.late.Goals as goal
 use Rattle.response_rules.proofs.deciding.Decider.late.Goals.{then-not-is_full, else-not-is_full}
 
@@ -18,12 +18,10 @@ returns c = λ h m r none.
       | then-not-is_full w ↦
           let short = sym full ∙ (sym c.is_full.ensures.value ∙ w.if-not-is_full.true) in
           let window = r.stands.window ∙ window_whole m short in
-          let nothing = text_none h m (sym (text_by-short h m short)) in
-          let fed = w.feed.ensures.reads (text_of h m) (r.text within) in
-          let read : TextHasRead w.feed.new.self m = subst (TextHasRead w.feed.new.self) (ap (λ u. u ++ w.as_slice.result.now) nothing ∙ w.as_slice.ensures.value ∙ window) fed in
+          let fed = w.feed.ensures.reads [] w.new-self.ensures in
+          let read : TextHasRead w.feed.new.self m = subst (λ (u : List ℕ). TextHasRead w.feed.new.self u) (w.as_slice.ensures.value ∙ window) fed in
           c.finish.ensures m (rw w.self-is read) ∙ rule
       | else-not-is_full w ↦
           let is = is_text h m (sym full ∙ (sym c.is_full.ensures.value ∙ w.if-not-is_full.false)) none in
-          let read : TextHasRead c.args.self.now.text m = subst (TextHasRead c.args.self.now.text) (text_same h m is) (r.text within) in
-          c.finish.ensures m (rw w.self-is read) ∙ rule
+          c.finish.ensures m (rw w.self-is (r.text within is)) ∙ rule
     ]

@@ -7,16 +7,16 @@ use Rattle.http_exchange.proofs.FramingLaws.{kept-none}
 use Rattle.body_filter.proofs.FilterLemmas.{so_far-unsent}
 use Rattle.body_filter.proofs.OwedLemmas.{first-sent}
 use Rattle.body_filter.proofs.PhaseLemmas.{reads-holding, reads-passing, reads-dropping, made-limit, judged-allowed, judged-blocked, judged-open}
-use Rattle.body_filter.proofs.filtering.Filter.begin.Goals as goal
+use Rattle.body_filter.proofs.filtering.Filter.start.Goals as goal
 
 pub returns-in-Allowed-clause-delivers : goal.returns-in-Allowed-clause-delivers
 returns-in-Allowed-clause-delivers g c = λ h r.
     let x = response_of h c.args.head.now c.args.chunked in
-    let sent : is_sent h [] ≡ true = judged-allowed _ _ (c.in-Allowed.ensures h [] r) in
+    let sent : is_sent h [] ≡ true = judged-allowed _ _ (sym c.in-Allowed.is ∙ c.judge.ensures h [] r) in
     Delivers-put _ _ c.idle_at_fault.result [] c.args.head.now (output_so_far x []) _
     (rw c.idle_at_fault.ensures.same c.put_bytes.ensures.puts.bytes) (first-sent x sent)
     (on_ok_weaker c.idle_at_fault.result
-    (λ is. reads-passing _ x [] (made-limit c.args.decider _ h c.requires.made r) r is
+    (λ is. reads-passing _ x [] (made-limit c.args.self.now.decider _ h c.requires.made r) r is
     (record {
       sent = sent;
       chunked = c.start.ensures.chunked;
@@ -27,20 +27,20 @@ returns-in-Allowed-clause-delivers g c = λ h r.
 pub returns-in-Blocked-clause-delivers : goal.returns-in-Blocked-clause-delivers
 returns-in-Blocked-clause-delivers g c = λ h r.
     let x = response_of h c.args.head.now c.args.chunked in
-    let judged = judged-blocked _ _ (c.in-Blocked.ensures h [] r) in
+    let judged = judged-blocked _ _ (sym c.in-Blocked.is ∙ c.judge.ensures h [] r) in
     Gives-none _ [] _ (g.met.O.Sink.told_agrees c.args.sink.now) (
       sym (so_far-unsent x [] judged.0),
-      (reads-dropping _ x [] (made-limit c.args.decider _ h c.requires.made r) r refl
+      (reads-dropping _ x [] (made-limit c.args.self.now.decider _ h c.requires.made r) r refl
           (record { over = judged.1 })),
     )
 
 pub returns-in-Open-clause-delivers : goal.returns-in-Open-clause-delivers
 returns-in-Open-clause-delivers g c = λ h r.
     let x = response_of h c.args.head.now c.args.chunked in
-    let judged = judged-open _ _ (c.in-Open.ensures h [] r) in
+    let judged = judged-open _ _ (sym c.in-Open.is ∙ c.judge.ensures h [] r) in
     Gives-none _ [] _ (g.met.O.Sink.told_agrees c.args.sink.now) (
       sym (so_far-unsent x [] judged.0),
-      (reads-holding _ x [] (made-limit c.args.decider _ h c.requires.made r) r refl
+      (reads-holding _ x [] (made-limit c.args.self.now.decider _ h c.requires.made r) r refl
           (record {
             unsent = judged.0;
             hopeful = judged.1;
