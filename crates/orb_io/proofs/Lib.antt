@@ -1,4 +1,5 @@
 pub mod ToldLemmas
 pub mod GivesLemmas
 pub mod CallLemmas
+pub mod ListenerLemmas
 mod StreamLemmas

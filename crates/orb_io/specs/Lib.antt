@@ -1,8 +1,10 @@
 pub mod Told
 pub mod Counts
 pub mod Memory
+pub mod Listeners
 pub mod Streams
 pub mod Adapters
+pub mod TcpAdapters
 pub mod Calls
 pub mod Outboxes
 pub mod OutboxLaws

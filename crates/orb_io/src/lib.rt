@@ -5,13 +5,19 @@
 //! in memory tell all of it, and fail where they are told to; [`StdSource`] and [`StdSink`] stand
 //! over std's readers and writers, and tell nothing but their faults.
 //!
-//! `specs/Told` has the words that every crate above cites, `specs/Memory` what the objects in
-//! memory do, and `specs/Streams` what the adapters do.
+//! A [`Listener`] hands out links, each a source and a sink at once, and takes them back. It counts
+//! the faults of `bind` and of `accept` apart, and tells how many links it handed out, where that
+//! is known. [`MemoryListener`] has its links in memory; [`TcpListening`] takes them from the system.
+//!
+//! `specs/Told` has the words that every crate above cites, `specs/Memory` and `specs/Listeners` what
+//! the objects in memory do, and `specs/Streams` what the adapters do.
 #![tactic(auto)]
 
 mod counting_sink;
 mod fault_count;
+mod listener;
 mod memory_link;
+mod memory_listener;
 mod memory_sink;
 mod memory_source;
 mod never_fails;
@@ -20,9 +26,12 @@ mod outside;
 mod pushing;
 mod streams;
 mod supply;
+mod tcp;
 
 pub use counting_sink::CountingSink;
+pub use listener::Listener;
 pub use memory_link::MemoryLink;
+pub use memory_listener::MemoryListener;
 pub use memory_sink::MemorySink;
 pub use memory_source::MemorySource;
 pub use never_fails::NeverFails;
@@ -30,3 +39,4 @@ pub use outbox::Outbox;
 pub use outside::{Duplex, Failed, NoMemory, Sink, Source};
 pub use pushing::push_nonempty;
 pub use streams::{StdSink, StdSource};
+pub use tcp::{TcpLink, TcpListening};

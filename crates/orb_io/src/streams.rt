@@ -107,7 +107,7 @@ impl<W: Write> Sink for StdSink<W> {
 }
 
 /// The answer that stands for what std answered: the same value, or a failure that is counted.
-fn counted<T>(outcome: io::Result<T>, faults: &mut u64) -> Result<T, Failed>
+pub(crate) fn counted<T>(outcome: io::Result<T>, faults: &mut u64) -> Result<T, Failed>
     ensures counted { IsCounted outcome result faults.old faults.new }
     ensures cause { HasCause faults.old faults.new result }
 {
@@ -118,7 +118,7 @@ fn counted<T>(outcome: io::Result<T>, faults: &mut u64) -> Result<T, Failed>
 }
 
 /// Writes the whole piece and flushes, and stops at the first error.
-fn write_and_flush<W: Write>(writer: &mut W, piece: &[u8]) -> io::Result<()>
+pub(crate) fn write_and_flush<W: Write>(writer: &mut W, piece: &[u8]) -> io::Result<()>
     ensures { PushAppends (W.contents writer.old) (W.contents writer.new) result piece.now }
 {
     let mut rest = piece;
