@@ -92,21 +92,20 @@ fn decider(alloc: Global, response: &Response) -> Result<Decider, Fail>
     ))
 }
 
-/// Feeds the body in pieces of that size.
+/// Feeds the body in pieces of that size, or of 1.
 fn feed_in_pieces(
     filter: &mut Filter,
     body: &[u8],
     size: usize,
     sink: &mut MemorySink,
 ) -> Result<(), WriteFault>
-    requires can { CanFeed filter.old }
-    requires some { 1 ≤ size }
+    requires { CanFeed filter.old }
     ensures can { OnOk result (CanFeed filter.new) }
     ensures limit { limit_of filter.new ≡ limit_of filter.old }
 {
     let mut rest = body;
     'pieces: while !rest.is_empty() {
-        let (piece, after) = rest.split_at(size.min(rest.len()));
+        let (piece, after) = rest.split_at(size.max(1).min(rest.len()));
         filter.feed(piece, sink)?;
         rest = after;
     }
@@ -144,8 +143,7 @@ fn pass(
     size: usize,
     sink: &mut MemorySink,
 ) -> Result<Verdict, WriteFault>
-    requires made { IsMadeFor decider (limit_of filter.old) }
-    requires some { 1 ≤ size }
+    requires { IsMadeFor decider (limit_of filter.old) }
     ensures { limit_of filter.new ≡ limit_of filter.old }
 {
     begin(filter, decider, chunked, sink)?;
