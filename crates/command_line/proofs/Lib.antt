@@ -1,0 +1,10 @@
+pub mod WordLemmas
+pub mod WalkLemmas
+pub mod ProgramLemmas
+pub mod OptionLemmas
+pub mod JobLemmas
+pub mod SpellLemmas
+pub mod OperandLemmas
+pub mod FirstLemmas
+pub mod ValueLemmas
+pub mod TakenLemmas
