@@ -1,5 +1,5 @@
 -- From what the engine answers to what the program does.
-use Rattle.std.proofs.Common.{◌≡◌, ℕ, Bool, true, false, List, [], ◌++◌, Option, Some, refl, sym, ap, ◌∙◌, subst}
+use Rattle.std.proofs.Common.{◌≡◌, ℕ, Bool, true, false, List, [], ◌++◌, Option, refl, sym, ap, ◌∙◌, subst}
 use Rattle.std.proofs.lemmas.List.{append-nil}
 use Rattle.orb_io.specs.Told.{IsPrefix}
 use Rattle.orb_io.proofs.ToldLemmas.{IsPrefix-trans}
@@ -14,7 +14,6 @@ use Rattle.orb_engine.specs.declared.engine.Engine.{Engine}
 use Rattle.orb_engine.specs.declared.outcome.EngineOutcome.{EngineOutcome}
 use Rattle.orb_engine.specs.declared.outcome.EngineOutcome.TheVariants.{Done, Bad, Cut, HeadLimit, MediaFull, Endless, ReadFault, WriteFault}
 use Rattle.orb_cli.specs.declared.outcome.Outcome.{Outcome}
-use Rattle.orb_cli.specs.Words.{Judge}
 use Rattle.orb_cli.specs.Answer.{EndsAt, FallsShort, IsJudgeAnswer, Ran}
 use Rattle.orb_cli.specs.Outcomes.{outcome_of}
 
@@ -59,9 +58,9 @@ judges ReadFault e s read ended wrote h = (h.0, EndsAt-ends e s read false _ end
 judges WriteFault e s read ended wrote h = FallsShort-fails e s read ended wrote h
 
 pub Ran-run : (o : EngineOutcome) (e : Engine) (t s : Settings) (left left' : Option (List ℕ)) (answer : Outcome) (wrote : List ℕ)
-    → t ≡ s → answer ≡ outcome_of o → EngineRan o e t left left' wrote → Ran (Some (Judge s)) left left' answer wrote
+    → t ≡ s → answer ≡ outcome_of o → EngineRan o e t left left' wrote → Ran (IsJudgeAnswer s) left left' answer wrote
 Ran-run o e t s left left' answer wrote same is ran =
-    let these : Ran (Some (Judge t)) left left' (outcome_of o) wrote = record {
+    let these : Ran (IsJudgeAnswer t) left left' (outcome_of o) wrote = record {
       read = ran.read;
       ended = ran.ended;
       lost = ran.lost;
@@ -69,5 +68,5 @@ Ran-run o e t s left left' answer wrote same is ran =
       fits = λ never. ran.fits (λ endless. never (ap outcome_of endless));
       answers = judges o e t ran.read ran.ended wrote ran.answers;
     } in
-    subst (λ x. Ran (Some (Judge s)) left left' x wrote) (sym is)
-    (subst (λ x. Ran (Some (Judge x)) left left' (outcome_of o) wrote) same these)
+    subst (λ x. Ran (IsJudgeAnswer s) left left' x wrote) (sym is)
+    (subst (λ x. Ran (IsJudgeAnswer x) left left' (outcome_of o) wrote) same these)

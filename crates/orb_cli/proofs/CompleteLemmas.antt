@@ -9,8 +9,7 @@ use Rattle.orb_engine.specs.Complete.{IsWholeRecording, IsAll}
 use Rattle.orb_engine.proofs.CompleteLemmas.{front_is_all, whole_is_not_endless}
 use Rattle.orb_cli.specs.declared.outcome.Outcome.{Outcome}
 use Rattle.orb_cli.specs.declared.outcome.Outcome.TheVariants.{Done, Usage, Bad, Cut, HeadLimit, MediaFull, Endless, ReadFault, WriteFault, NoMemory}
-use Rattle.orb_cli.specs.Words.{Judge, Mime}
-use Rattle.orb_cli.specs.Answer.{EndsAt, Ran, HasCauses}
+use Rattle.orb_cli.specs.Answer.{EndsAt, IsJudgeAnswer, IsMimeAnswer, Ran, HasCauses}
 use Rattle.orb_cli.specs.Complete.{IsComplete, IsCompleteText}
 
 -- what was lost of the whole recording is all of it, and it ends Done
@@ -29,7 +28,7 @@ whole_is_done s bytes read rest wrote r ended stop whole lost all h closed other
 
 pub complete_recording : (s : Settings) (bytes : List ℕ) (r : Recording)
     (left' : Option (List ℕ)) (wrote : List ℕ) (source source' sink sink' : ℕ) (answer : Outcome)
-    → IsWholeRecording s bytes r → Ran (Some (Judge s)) (Some bytes) left' answer wrote
+    → IsWholeRecording s bytes r → Ran (IsJudgeAnswer s) (Some bytes) left' answer wrote
     → HasCauses source source' sink sink' answer → ¬ (Rose source source') → ¬ (Rose sink sink')
     → IsComplete s bytes r left' wrote answer
 complete_recording s bytes r None wrote m m' n n' answer whole ran causes calm calm' = absurd ran.lost
@@ -54,7 +53,7 @@ complete_recording s bytes r (Some rest) wrote m m' n n' NoMemory whole ran caus
     (ap Some (sym same), ran.answers.1)
 
 pub complete_text : (text : List ℕ) (left left' : Option (List ℕ)) (wrote : List ℕ)
-    (source source' sink sink' : ℕ) (answer : Outcome) → Ran (Some (Mime text)) left left' answer wrote
+    (source source' sink sink' : ℕ) (answer : Outcome) → Ran (λ read ended wrote answer. IsMimeAnswer text read answer wrote) left left' answer wrote
     → HasCauses source source' sink sink' answer → ¬ (Rose sink sink') → IsCompleteText text wrote answer
 complete_text text left left' wrote m m' n n' Done ran causes calm = ran.answers.1
 complete_text text left left' wrote m m' n n' NoMemory ran causes calm = ran.answers.1

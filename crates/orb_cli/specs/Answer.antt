@@ -9,7 +9,8 @@ use Rattle.orb_engine.specs.Outputs.{output_of}
 use Rattle.orb_engine.specs.Runs.{run_limit}
 use Rattle.orb_cli.specs.declared.outcome.Outcome.{Outcome}
 use Rattle.orb_cli.specs.declared.outcome.Outcome.TheVariants as outcomes
-use Rattle.orb_cli.specs.Words.{Asked, Judge, Mime}
+use Rattle.command_line.specs.Taken.{Asked, Judge, Mime, IsTaken}
+use Rattle.orb_cli.specs.Words.{settings_of, AreRefused}
 use Rattle.orb_cli.specs.MimeLine.{IsMimeLine}
 
 -- nothing was read or written
@@ -55,25 +56,34 @@ IsMimeAnswer text read outcomes.WriteFault wrote =
 IsMimeAnswer text read outcomes.NoMemory wrote = Untouched read wrote
 IsMimeAnswer text read _ wrote = ⊥
 
--- what an answer to words that are taken says, by what they ask for
+-- what an answer to words that ask for this says
 abbrev pub IsAnswer : Asked → (read : List ℕ) (ended : Bool) (wrote : List ℕ) → Outcome → Type 0
-IsAnswer (Judge s) read ended wrote answer = IsJudgeAnswer s read ended wrote answer
+IsAnswer (Judge job policy limit) read ended wrote answer = IsJudgeAnswer (settings_of job policy limit) read ended wrote answer
 IsAnswer (Mime text) read ended wrote answer = IsMimeAnswer text read answer wrote
+IsAnswer _ read ended wrote answer = ⊥
 
--- what the answer says: `Usage` to words that are not taken, and to no others
-abbrev pub Answers : Option Asked → (read : List ℕ) (ended : Bool) (wrote : List ℕ) → Outcome → Type 0
-Answers None read ended wrote answer = (answer ≡ outcomes.Usage) × Untouched read wrote
-Answers (Some asked) read ended wrote answer = IsAnswer asked read ended wrote answer
+-- what the words ask for, and that the answer says so of it
+abbrev pub AnswersWords : List (List ℕ) → (read : List ℕ) (ended : Bool) (wrote : List ℕ) → Outcome → Type 0
+AnswersWords words read ended wrote answer = (asked : Asked) × IsTaken words asked × IsAnswer asked read ended wrote answer
+
+-- What an answer to these words says: `Usage` comes exactly where they ask `run` for nothing, but that there may be no
+-- memory for any words.
+abbrev pub Answers : (words : List (List ℕ)) (read : List ℕ) (ended : Bool) (wrote : List ℕ) → Outcome → Type 0
+Answers words read ended wrote outcomes.Usage = AreRefused words × Untouched read wrote
+Answers words read ended wrote outcomes.NoMemory = Untouched read wrote
+Answers words read ended wrote answer = AnswersWords words read ended wrote answer
 
 -- The bytes that the source lost, whether the input has ended, and what the answer says of them and of what was
 -- written. More than one run takes are lost only where the answer is Endless.
-pub record Ran (asked : Option Asked) (left left' : Option (List ℕ)) (answer : Outcome) (wrote : List ℕ) : Type 0 where
-  pub read : List ℕ
-  pub ended : Bool
-  pub lost : Loses left left' read
-  pub at_end : ended ≡ true → IsAtEnd left'
-  pub fits : (answer ≡ outcomes.Endless → ⊥) → length read ≤ run_limit
-  pub answers : Answers asked read ended wrote answer
+pub record Ran (Says : (read : List ℕ) (ended : Bool) (wrote : List ℕ) → Outcome → Type 0)
+    (left left' : Option (List ℕ)) (answer : Outcome) (wrote : List ℕ) : Type 0
+  where
+    pub read : List ℕ
+    pub ended : Bool
+    pub lost : Loses left left' read
+    pub at_end : ended ≡ true → IsAtEnd left'
+    pub fits : (answer ≡ outcomes.Endless → ⊥) → length read ≤ run_limit
+    pub answers : Says read ended wrote answer
 
 -- A read fault comes only where the source's count rose, a write fault only where the sink's did.
 -- Every other count is as it was.

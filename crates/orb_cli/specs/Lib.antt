@@ -1,5 +1,4 @@
 pub mod Words
-pub mod Commands
 pub mod MimeLine
 pub mod Outcomes
 pub mod Answer

@@ -1,8 +1,7 @@
 //! The words `filter` and `explain`: a recording from a source to a sink.
-ghost use Rattle.std.specs.Prelude.{◌≤◌, [], Some};
+ghost use Rattle.std.specs.Prelude.{◌≤◌, []};
 ghost use Rattle.orb_io.specs.Told.{Gives};
-ghost use Rattle.orb_cli.specs.Words.{Judge};
-ghost use Rattle.orb_cli.specs.Answer.{Ran, HasCauses};
+ghost use Rattle.orb_cli.specs.Answer.{Ran, IsJudgeAnswer, HasCauses};
 
 use crate::outcome::Outcome;
 use orb_engine::{Engine, Settings};
@@ -19,7 +18,7 @@ pub fn judge<I: Source, O: Sink>(
     requires low { 1024 ≤ settings.limit }
     requires high { settings.limit ≤ 268435456 }
     ensures ran { Gives (O.told output.old) (O.told output.new) []
-        (Ran (Some (Judge settings)) (I.left input.old) (I.left input.new) result) }
+        (Ran (IsJudgeAnswer settings) (I.left input.old) (I.left input.new) result) }
     ensures causes { HasCauses (I.faults input.old) (I.faults input.new)
         (O.faults output.old) (O.faults output.new) result }
 {

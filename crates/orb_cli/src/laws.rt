@@ -1,30 +1,32 @@
 //! The law that makes the answers of [`crate::run`] complete.
 ghost use Rattle.std.specs.Prelude.{◌≡◌, ℕ, List, Option, Some};
 ghost use Rattle.orb_io.specs.Told.{Rose};
-ghost use Rattle.orb_engine.specs.declared.settings.Settings.{Settings};
 ghost use Rattle.orb_engine.specs.Recording.{Recording};
 ghost use Rattle.orb_engine.specs.Complete.{IsWholeRecording};
+ghost use Rattle.command_line.specs.declared.asked.Job.{Job};
+ghost use Rattle.command_line.specs.declared.asked.Policy.{Policy};
+ghost use Rattle.command_line.specs.Taken.{IsTaken, Judge, Mime};
 ghost use Rattle.orb_cli.specs.declared.outcome.Outcome.{Outcome};
-ghost use Rattle.orb_cli.specs.Words.{Judge, Mime};
-ghost use Rattle.orb_cli.specs.Answer.{Ran, HasCauses};
+ghost use Rattle.orb_cli.specs.Words.{settings_of};
+ghost use Rattle.orb_cli.specs.Answer.{Answers, Ran, HasCauses};
 ghost use Rattle.orb_cli.specs.Complete.{IsComplete, IsCompleteText};
 
 /// Law: where no count of faults rose, [`crate::run`] answers `Done`, or `NoMemory` with nothing read and written.
 ///
 /// With the words `filter` and `explain` this holds where the source tells its bytes, they are a recording that
-/// ends behind a whole exchange or is empty, and one run takes so many. `Done` then says that all was read, and
+/// ends after a whole exchange or is empty, and one run takes so many. `Done` then says that all was read, and
 /// that all that is written of the recording was written. With `mime` it says that the line was written.
 pub fn completeness()
-    ensures recordings { (s : Settings) (bytes : List ℕ) (r : Recording)
+    ensures recordings { (words : List (List ℕ)) (job : Job) (policy : Policy) (limit : ℕ) (bytes : List ℕ) (r : Recording)
         (left' : Option (List ℕ)) (wrote : List ℕ) (source source' sink sink' : ℕ) (answer : Outcome)
-        → IsWholeRecording s bytes r
-        → Ran (Some (Judge s)) (Some bytes) left' answer wrote
+        → IsTaken words (Judge job policy limit) → IsWholeRecording (settings_of job policy limit) bytes r
+        → Ran (Answers words) (Some bytes) left' answer wrote
         → HasCauses source source' sink sink' answer
         → ¬ (Rose source source') → ¬ (Rose sink sink')
-        → IsComplete s bytes r left' wrote answer }
-    ensures texts { (text : List ℕ) (left left' : Option (List ℕ)) (wrote : List ℕ)
+        → IsComplete (settings_of job policy limit) bytes r left' wrote answer }
+    ensures texts { (words : List (List ℕ)) (text : List ℕ) (left left' : Option (List ℕ)) (wrote : List ℕ)
         (source source' sink sink' : ℕ) (answer : Outcome)
-        → Ran (Some (Mime text)) left left' answer wrote
+        → IsTaken words (Mime text) → Ran (Answers words) left left' answer wrote
         → HasCauses source source' sink sink' answer
         → ¬ (Rose sink sink')
         → IsCompleteText text wrote answer }

@@ -7,12 +7,6 @@ use std::alloc::Global;
 use std::process::Abort;
 use std::test::Fail;
 
-#[derive(Clone, Copy, Debug)]
-enum Word {
-    Filter,
-    Explain,
-}
-
 /// What fails: nothing, one pull of so many bytes at most, or one push.
 #[derive(Clone, Copy)]
 enum Fault {
@@ -24,13 +18,12 @@ enum Fault {
 use BadKind::{BadChunk, BadFraming, BadHead, BadMediaId, Interim, RequestBody};
 use Fault::{Calm, Pull, Push};
 use Outcome::{Bad, Cut, Done, HeadLimit, MediaFull, ReadFault, WriteFault};
-use Word::{Explain, Filter};
 
-/// What the recording is, the word, what fails, the recording, the answer, and what is written: texts in
-/// which `{8-10:x#}` stands for `x8x9x10`.
+/// What the recording is, the words with spaces between them, what fails, the recording, the answer, and what is
+/// written: texts in which `~8-10:x#~` stands for `x8x9x10`.
 type Row = (
     &'static str,
-    Word,
+    &'static str,
     Fault,
     &'static [u8],
     Outcome,
@@ -41,7 +34,7 @@ type Row = (
 const WORKED: &[Row] = &[
     (
         "a typed script",
-        Filter,
+        "filter",
         Calm,
         b"GET / HTTP/1.1\r\nSec-Fetch-Mode: no-cors\r\n\r\n\
          HTTP/1.1 200 OK\r\nContent-Type: text/javascript\r\nContent-Length: 2\r\n\r\n\
@@ -52,7 +45,7 @@ const WORKED: &[Row] = &[
     ),
     (
         "a typed script",
-        Explain,
+        "explain",
         Calm,
         b"GET / HTTP/1.1\r\nSec-Fetch-Mode: no-cors\r\n\r\n\
          HTTP/1.1 200 OK\r\nContent-Type: text/javascript\r\nContent-Length: 2\r\n\r\n\
@@ -60,11 +53,11 @@ const WORKED: &[Row] = &[
         Done,
         b"1 allow safelisted na 2\n",
     ),
-    ("no exchange", Filter, Calm, b"", Done, b""),
-    ("no exchange", Explain, Calm, b"", Done, b""),
+    ("no exchange", "filter", Calm, b"", Done, b""),
+    ("no exchange", "explain", Calm, b"", Done, b""),
     (
         "a cut request",
-        Filter,
+        "filter",
         Calm,
         b"GET / HTTP/1.1\r\n",
         Cut { place: 0 },
@@ -72,7 +65,7 @@ const WORKED: &[Row] = &[
     ),
     (
         "a cut request behind an exchange",
-        Filter,
+        "filter",
         Calm,
         b"GET / HTTP/1.1\r\nSec-Fetch-Mode: no-cors\r\n\r\n\
          HTTP/1.1 200 OK\r\nContent-Type: text/javascript\r\nContent-Length: 2\r\n\r\n\
@@ -83,7 +76,7 @@ const WORKED: &[Row] = &[
     ),
     (
         "a cut body",
-        Filter,
+        "filter",
         Calm,
         b"GET / HTTP/1.1\r\nSec-Fetch-Mode: no-cors\r\n\r\n\
          HTTP/1.1 200 OK\r\nContent-Type: text/javascript\r\nContent-Length: 2\r\n\r\n",
@@ -92,7 +85,7 @@ const WORKED: &[Row] = &[
     ),
     (
         "a page that is not to be sniffed",
-        Filter,
+        "filter",
         Calm,
         b"GET / HTTP/1.1\r\nSec-Fetch-Mode: no-cors\r\n\r\n\
          HTTP/1.1 200 OK\r\nContent-Type: text/html\r\nX-Content-Type-Options: nosniff\r\n\
@@ -103,40 +96,40 @@ const WORKED: &[Row] = &[
     ),
     (
         "a long image",
-        Explain,
+        "explain",
         Calm,
         b"GET / HTTP/1.1\r\nSec-Fetch-Mode: no-cors\r\n\r\n\
          HTTP/1.1 200 OK\r\nContent-Length: 2097158\r\n\r\n\
-         GIF89a{0-2097151:\0}",
+         GIF89a~0-2097151:\0~",
         Done,
         b"1 allow image na 2097158\n",
     ),
     (
         "a long image",
-        Filter,
+        "filter",
         Calm,
         b"GET / HTTP/1.1\r\nSec-Fetch-Mode: no-cors\r\n\r\n\
          HTTP/1.1 200 OK\r\nContent-Length: 2097158\r\n\r\n\
-         GIF89a{0-2097151:\0}",
+         GIF89a~0-2097151:\0~",
         Done,
         b"HTTP/1.1 200 OK\r\nContent-Length: 2097158\r\n\r\n\
-         GIF89a{0-2097151:\0}",
+         GIF89a~0-2097151:\0~",
     ),
     (
         "an image of a browser's request",
-        Explain,
+        "explain",
         Calm,
         b"GET / HTTP/1.1\r\nHost: a\r\nUser-Agent: b\r\nAccept: */*\r\nSec-Fetch-Dest: image\r\n\
          Sec-Fetch-Mode: no-cors\r\nSec-Fetch-Site: cross-site\r\n\r\n\
          HTTP/1.1 200 OK\r\nContent-Type: image/png\r\nX-Content-Type-Options: nosniff\r\n\
          Content-Length: 3000\r\n\r\n\
-         \x89PNG\r\n\x1A\n{0-2991:\0}",
+         \x89PNG\r\n\x1A\n~0-2991:\0~",
         Done,
         b"1 allow image na 3000\n",
     ),
     (
         "a quoted comma across two fields",
-        Explain,
+        "explain",
         Calm,
         b"GET / HTTP/1.1\r\nSec-Fetch-Mode: no-cors\r\n\r\n\
          HTTP/1.1 200 OK\r\nContent-Type: text/html;x=\"a,b\r\nContent-Type: c\", text/css\r\n\
@@ -147,94 +140,94 @@ const WORKED: &[Row] = &[
     ),
     (
         "two ranges of a medium",
-        Explain,
+        "explain",
         Calm,
         b"GET / HTTP/1.1\r\nSec-Fetch-Mode: no-cors\r\nSec-Fetch-Dest: audio\r\nOrb-Media: 7\r\n\r\n\
          HTTP/1.1 206 OK\r\nContent-Type: application/ogg\r\nContent-Range: bytes 0-1023/9000\r\n\
          Content-Length: 1024\r\n\r\n\
-         OggS{0-1019:\0}GET / HTTP/1.1\r\nSec-Fetch-Mode: no-cors\r\nSec-Fetch-Dest: audio\r\n\
+         OggS~0-1019:\0~GET / HTTP/1.1\r\nSec-Fetch-Mode: no-cors\r\nSec-Fetch-Dest: audio\r\n\
          Orb-Media: 7\r\n\r\n\
          HTTP/1.1 206 OK\r\nContent-Type: application/ogg\r\nContent-Range: bytes 1024-2047/9000\r\n\
          Content-Length: 1024\r\n\r\n\
-         {0-1023:\0}",
+         ~0-1023:\0~",
         Done,
         b"1 allow media subsequent 1024\n2 allow subsequent subsequent 1024\n",
     ),
     (
         "a first range that is none",
-        Explain,
+        "explain",
         Calm,
         b"GET / HTTP/1.1\r\nSec-Fetch-Mode: no-cors\r\nSec-Fetch-Dest: audio\r\nOrb-Media: 7\r\n\r\n\
          HTTP/1.1 206 OK\r\nContent-Type: application/ogg\r\nContent-Range: bytes 1-1024/9000\r\n\
          Content-Length: 1024\r\n\r\n\
-         OggS{0-1019:\0}",
+         OggS~0-1019:\0~",
         Done,
         b"1 block bad-range initial 1024\n",
     ),
     (
         "a range that no medium asked for",
-        Explain,
+        "explain",
         Calm,
         b"GET / HTTP/1.1\r\nSec-Fetch-Mode: no-cors\r\n\r\n\
          HTTP/1.1 206 OK\r\nContent-Type: application/ogg\r\nContent-Range: bytes 0-1023/9000\r\n\
          Content-Length: 1024\r\n\r\n\
-         OggS{0-1019:\0}",
+         OggS~0-1019:\0~",
         Done,
         b"1 block media-unexpected na 1024\n",
     ),
     (
         "a box past the window",
-        Explain,
+        "explain",
         Calm,
         b"GET / HTTP/1.1\r\nSec-Fetch-Mode: no-cors\r\nSec-Fetch-Dest: video\r\n\r\n\
          HTTP/1.1 200 OK\r\nContent-Type: video/mp4\r\nContent-Length: 5000\r\n\r\n\
-         \0\0\x04\x04ftypmp42{0-4987:\0}",
+         \0\0\x04\x04ftypmp42~0-4987:\0~",
         Done,
         b"1 block media-expected initial 5000\n",
     ),
     (
         "a box within the window",
-        Explain,
+        "explain",
         Calm,
         b"GET / HTTP/1.1\r\nSec-Fetch-Mode: no-cors\r\nSec-Fetch-Dest: video\r\n\r\n\
          HTTP/1.1 200 OK\r\nContent-Type: video/mp4\r\nContent-Length: 5000\r\n\r\n\
-         \0\0\x04\0ftypmp42{0-4987:\0}",
+         \0\0\x04\0ftypmp42~0-4987:\0~",
         Done,
         b"1 allow media subsequent 5000\n",
     ),
     (
         "two frames of sound",
-        Explain,
+        "explain",
         Calm,
         b"GET / HTTP/1.1\r\nSec-Fetch-Mode: no-cors\r\nSec-Fetch-Dest: audio\r\n\r\n\
          HTTP/1.1 200 OK\r\nContent-Type: audio/mpeg\r\nContent-Length: 421\r\n\r\n\
-         \xFF\xFB\x90\0{0-412:\0}\xFF\xFB\x90\0",
+         \xFF\xFB\x90\0~0-412:\0~\xFF\xFB\x90\0",
         Done,
         b"1 allow media subsequent 421\n",
     ),
     (
         "a frame and a cut one",
-        Explain,
+        "explain",
         Calm,
         b"GET / HTTP/1.1\r\nSec-Fetch-Mode: no-cors\r\nSec-Fetch-Dest: audio\r\n\r\n\
          HTTP/1.1 200 OK\r\nContent-Type: audio/mpeg\r\nContent-Length: 420\r\n\r\n\
-         \xFF\xFB\x90\0{0-412:\0}\xFF\xFB\x90",
+         \xFF\xFB\x90\0~0-412:\0~\xFF\xFB\x90",
         Done,
         b"1 block media-expected initial 420\n",
     ),
     (
         "a padded frame",
-        Explain,
+        "explain",
         Calm,
         b"GET / HTTP/1.1\r\nSec-Fetch-Mode: no-cors\r\nSec-Fetch-Dest: audio\r\n\r\n\
          HTTP/1.1 200 OK\r\nContent-Type: audio/mpeg\r\nContent-Length: 421\r\n\r\n\
-         \xFF\xFB\x92\0{0-412:\0}\xFF\xFB\x90\0",
+         \xFF\xFB\x92\0~0-412:\0~\xFF\xFB\x90\0",
         Done,
         b"1 block media-expected initial 421\n",
     ),
     (
         "a video by its first bytes",
-        Explain,
+        "explain",
         Calm,
         b"GET / HTTP/1.1\r\nSec-Fetch-Mode: no-cors\r\nSec-Fetch-Dest: video\r\n\r\n\
          HTTP/1.1 200 OK\r\nContent-Type: video/webm\r\nContent-Length: 12\r\n\r\n\
@@ -244,40 +237,40 @@ const WORKED: &[Row] = &[
     ),
     (
         "chunks of one byte",
-        Filter,
+        "filter",
         Calm,
         b"GET / HTTP/1.1\r\nSec-Fetch-Mode: no-cors\r\n\r\n\
          HTTP/1.1 200 OK\r\nContent-Type: image/jpeg\r\nTransfer-Encoding: chunked\r\n\r\n\
-         1\r\n\xFF\r\n1\r\n\xD8\r\n1\r\n\xFF\r\n{0-2045:1\r\n\0\r\n}0\r\n\r\n",
+         1\r\n\xFF\r\n1\r\n\xD8\r\n1\r\n\xFF\r\n~0-2045:1\r\n\0\r\n~0\r\n\r\n",
         Done,
         b"HTTP/1.1 200 OK\r\nContent-Type: image/jpeg\r\nTransfer-Encoding: chunked\r\n\r\n\
-         400\r\n\xFF\xD8\xFF{0-1020:\0}\r\n400\r\n{0-1023:\0}\r\n1\r\n\0\r\n0\r\n\r\n",
+         400\r\n\xFF\xD8\xFF~0-1020:\0~\r\n400\r\n~0-1023:\0~\r\n1\r\n\0\r\n0\r\n\r\n",
     ),
     (
         "chunks with extensions, and a trailer",
-        Filter,
+        "filter",
         Calm,
         b"GET / HTTP/1.1\r\nSec-Fetch-Mode: no-cors\r\n\r\n\
          HTTP/1.1 200 OK\r\nContent-Type: image/jpeg\r\nTransfer-Encoding: chunked\r\n\r\n\
-         1;x=\r\n\xFF\r\n1;x=\r\n\xD8\r\n1;x=\r\n\xFF\r\n{0-2045:1;x=\r\n\0\r\n}0\r\nA: b\r\n\r\n",
+         1;x=\r\n\xFF\r\n1;x=\r\n\xD8\r\n1;x=\r\n\xFF\r\n~0-2045:1;x=\r\n\0\r\n~0\r\nA: b\r\n\r\n",
         Done,
         b"HTTP/1.1 200 OK\r\nContent-Type: image/jpeg\r\nTransfer-Encoding: chunked\r\n\r\n\
-         400\r\n\xFF\xD8\xFF{0-1020:\0}\r\n400\r\n{0-1023:\0}\r\n1\r\n\0\r\n0\r\n\r\n",
+         400\r\n\xFF\xD8\xFF~0-1020:\0~\r\n400\r\n~0-1023:\0~\r\n1\r\n\0\r\n0\r\n\r\n",
     ),
     (
         "chunks and a trailer",
-        Filter,
+        "filter",
         Calm,
         b"GET / HTTP/1.1\r\nSec-Fetch-Mode: no-cors\r\n\r\n\
          HTTP/1.1 200 OK\r\nContent-Type: image/jpeg\r\nTransfer-Encoding: chunked\r\n\r\n\
-         1\r\n\xFF\r\n1\r\n\xD8\r\n1\r\n\xFF\r\n{0-2045:1\r\n\0\r\n}0\r\nA: b\r\n\r\n",
+         1\r\n\xFF\r\n1\r\n\xD8\r\n1\r\n\xFF\r\n~0-2045:1\r\n\0\r\n~0\r\nA: b\r\n\r\n",
         Done,
         b"HTTP/1.1 200 OK\r\nContent-Type: image/jpeg\r\nTransfer-Encoding: chunked\r\n\r\n\
-         400\r\n\xFF\xD8\xFF{0-1020:\0}\r\n400\r\n{0-1023:\0}\r\n1\r\n\0\r\n0\r\n\r\n",
+         400\r\n\xFF\xD8\xFF~0-1020:\0~\r\n400\r\n~0-1023:\0~\r\n1\r\n\0\r\n0\r\n\r\n",
     ),
     (
         "no chunk size",
-        Explain,
+        "explain",
         Calm,
         b"GET / HTTP/1.1\r\nSec-Fetch-Mode: no-cors\r\n\r\n\
          HTTP/1.1 200 OK\r\nTransfer-Encoding: chunked\r\n\r\n\
@@ -290,7 +283,7 @@ const WORKED: &[Row] = &[
     ),
     (
         "a method alone",
-        Explain,
+        "explain",
         Calm,
         b"GET\r\n\r\n",
         Bad {
@@ -301,7 +294,7 @@ const WORKED: &[Row] = &[
     ),
     (
         "a request with a body",
-        Explain,
+        "explain",
         Calm,
         b"POST / HTTP/1.1\r\nContent-Length: 1\r\n\r\n",
         Bad {
@@ -312,7 +305,7 @@ const WORKED: &[Row] = &[
     ),
     (
         "a media id that is no number",
-        Explain,
+        "explain",
         Calm,
         b"GET / HTTP/1.1\r\nSec-Fetch-Mode: no-cors\r\nSec-Fetch-Dest: audio\r\nOrb-Media: x\r\n\r\n",
         Bad {
@@ -323,7 +316,7 @@ const WORKED: &[Row] = &[
     ),
     (
         "an interim response",
-        Explain,
+        "explain",
         Calm,
         b"GET / HTTP/1.1\r\nSec-Fetch-Mode: no-cors\r\n\r\n\
          HTTP/1.1 100 Continue\r\n\r\n",
@@ -335,7 +328,7 @@ const WORKED: &[Row] = &[
     ),
     (
         "two lengths",
-        Explain,
+        "explain",
         Calm,
         b"GET / HTTP/1.1\r\nSec-Fetch-Mode: no-cors\r\n\r\n\
          HTTP/1.1 200 OK\r\nContent-Length: 3\r\nContent-Length: 4\r\n\r\n",
@@ -347,7 +340,7 @@ const WORKED: &[Row] = &[
     ),
     (
         "one length twice",
-        Explain,
+        "explain",
         Calm,
         b"GET / HTTP/1.1\r\nSec-Fetch-Mode: no-cors\r\n\r\n\
          HTTP/1.1 200 OK\r\nContent-Type: text/css\r\nContent-Length: 3\r\nContent-Length: 3\r\n\r\n\
@@ -357,39 +350,39 @@ const WORKED: &[Row] = &[
     ),
     (
         "a head over its limit",
-        Filter,
+        "filter",
         Calm,
-        b"{0-65535:a}",
+        b"~0-65535:a~",
         HeadLimit { place: 0 },
         b"",
     ),
     (
         "a cut head",
-        Filter,
+        "filter",
         Calm,
-        b"{0-65534:a}",
+        b"~0-65534:a~",
         Cut { place: 0 },
         b"",
     ),
     (
         "one medium too many",
-        Explain,
+        "explain",
         Calm,
-        b"{0-4095:GET / HTTP/1.1\r\nSec-Fetch-Mode: no-cors\r\nSec-Fetch-Dest: audio\r\n\
+        b"~0-4095:GET / HTTP/1.1\r\nSec-Fetch-Mode: no-cors\r\nSec-Fetch-Dest: audio\r\n\
          Orb-Media: #\r\n\r\n\
          HTTP/1.1 200 OK\r\nContent-Type: text/css\r\nContent-Length: 1\r\n\r\n\
-         x}GET / HTTP/1.1\r\nSec-Fetch-Mode: no-cors\r\nSec-Fetch-Dest: audio\r\nOrb-Media: 5\r\n\r\n\
+         x~GET / HTTP/1.1\r\nSec-Fetch-Mode: no-cors\r\nSec-Fetch-Dest: audio\r\nOrb-Media: 5\r\n\r\n\
          HTTP/1.1 200 OK\r\nContent-Type: text/css\r\nContent-Length: 1\r\n\r\n\
          xGET / HTTP/1.1\r\nSec-Fetch-Mode: no-cors\r\nSec-Fetch-Dest: audio\r\n\
          Orb-Media: 4096\r\n\r\n\
          HTTP/1.1 200 OK\r\nContent-Type: text/css\r\nContent-Length: 1\r\n\r\n\
          x",
         MediaFull { place: 597_049 },
-        b"{1-4097:# allow safelisted initial 1\n}",
+        b"~1-4097:# allow safelisted initial 1\n~",
     ),
     (
         "an answer to HEAD",
-        Explain,
+        "explain",
         Calm,
         b"HEAD / HTTP/1.1\r\nSec-Fetch-Mode: no-cors\r\n\r\n\
          HTTP/1.1 200 OK\r\nContent-Type: text/html\r\nX-Content-Type-Options: nosniff\r\n\
@@ -399,7 +392,7 @@ const WORKED: &[Row] = &[
     ),
     (
         "a coded body",
-        Explain,
+        "explain",
         Calm,
         b"GET / HTTP/1.1\r\nSec-Fetch-Mode: no-cors\r\n\r\n\
          HTTP/1.1 200 OK\r\nContent-Type: application/octet-stream\r\nContent-Encoding: gzip\r\n\
@@ -410,7 +403,7 @@ const WORKED: &[Row] = &[
     ),
     (
         "a coded script",
-        Explain,
+        "explain",
         Calm,
         b"GET / HTTP/1.1\r\nSec-Fetch-Mode: no-cors\r\n\r\n\
          HTTP/1.1 200 OK\r\nContent-Type: text/javascript\r\nContent-Encoding: gzip\r\n\
@@ -421,7 +414,7 @@ const WORKED: &[Row] = &[
     ),
     (
         "a pull that fails in the body",
-        Filter,
+        "filter",
         Pull { piece: 50, call: 2 },
         b"GET / HTTP/1.1\r\nSec-Fetch-Mode: no-cors\r\n\r\n\
          HTTP/1.1 200 OK\r\nContent-Type: text/javascript\r\nContent-Length: 2\r\n\r\n\
@@ -431,7 +424,7 @@ const WORKED: &[Row] = &[
     ),
     (
         "a pull that fails behind the body",
-        Filter,
+        "filter",
         Pull { piece: 57, call: 2 },
         b"GET / HTTP/1.1\r\nSec-Fetch-Mode: no-cors\r\n\r\n\
          HTTP/1.1 200 OK\r\nContent-Type: text/javascript\r\nContent-Length: 2\r\n\r\n\
@@ -442,7 +435,7 @@ const WORKED: &[Row] = &[
     ),
     (
         "a first pull that fails",
-        Filter,
+        "filter",
         Pull { piece: 50, call: 0 },
         b"GET / HTTP/1.1\r\nSec-Fetch-Mode: no-cors\r\n\r\n\
          HTTP/1.1 200 OK\r\nContent-Type: text/javascript\r\nContent-Length: 2\r\n\r\n\
@@ -452,7 +445,7 @@ const WORKED: &[Row] = &[
     ),
     (
         "a first push that fails",
-        Filter,
+        "filter",
         Push { call: 0 },
         b"GET / HTTP/1.1\r\nSec-Fetch-Mode: no-cors\r\n\r\n\
          HTTP/1.1 200 OK\r\nContent-Type: text/javascript\r\nContent-Length: 2\r\n\r\n\
@@ -462,7 +455,7 @@ const WORKED: &[Row] = &[
     ),
     (
         "a body to the end of the input",
-        Explain,
+        "explain",
         Calm,
         b"GET / HTTP/1.1\r\nSec-Fetch-Mode: no-cors\r\n\r\n\
          HTTP/1.1 200 OK\r\nContent-Type: text/css\r\n\r\n\
@@ -472,7 +465,7 @@ const WORKED: &[Row] = &[
     ),
     (
         "a failing pull where the input may end",
-        Filter,
+        "filter",
         Pull {
             piece: 200,
             call: 1,
@@ -486,7 +479,7 @@ const WORKED: &[Row] = &[
     ),
     (
         "a request that is not opaque",
-        Filter,
+        "filter",
         Calm,
         b"GET / HTTP/1.1\r\n\r\n\
          HTTP/1.1 200 OK\r\nContent-Type: text/html\r\nContent-Length: 2\r\n\r\n\
@@ -497,7 +490,7 @@ const WORKED: &[Row] = &[
     ),
     (
         "a type that is never sniffed",
-        Filter,
+        "filter",
         Calm,
         b"GET / HTTP/1.1\r\nSec-Fetch-Mode: no-cors\r\n\r\n\
          HTTP/1.1 200 OK\r\nContent-Type: text/csv\r\nContent-Length: 3\r\n\r\n\
@@ -507,7 +500,7 @@ const WORKED: &[Row] = &[
     ),
     (
         "an array",
-        Explain,
+        "explain",
         Calm,
         b"GET / HTTP/1.1\r\nSec-Fetch-Mode: no-cors\r\n\r\n\
          HTTP/1.1 200 OK\r\nContent-Type: application/octet-stream\r\nContent-Length: 5\r\n\r\n\
@@ -517,7 +510,7 @@ const WORKED: &[Row] = &[
     ),
     (
         "an assignment",
-        Explain,
+        "explain",
         Calm,
         b"GET / HTTP/1.1\r\nSec-Fetch-Mode: no-cors\r\n\r\n\
          HTTP/1.1 200 OK\r\nContent-Type: application/octet-stream\r\nContent-Length: 3\r\n\r\n\
@@ -527,7 +520,7 @@ const WORKED: &[Row] = &[
     ),
     (
         "slashes of both kinds",
-        Explain,
+        "explain",
         Calm,
         b"GET / HTTP/1.1\r\nSec-Fetch-Mode: no-cors\r\n\r\n\
          HTTP/1.1 200 OK\r\nContent-Type: application/octet-stream\r\nContent-Length: 28\r\n\r\n\
@@ -537,7 +530,7 @@ const WORKED: &[Row] = &[
     ),
     (
         "a name",
-        Filter,
+        "filter",
         Calm,
         b"GET / HTTP/1.1\r\nSec-Fetch-Mode: no-cors\r\n\r\n\
          HTTP/1.1 200 OK\r\nContent-Type: application/octet-stream\r\nContent-Length: 1\r\n\r\n\
@@ -548,13 +541,103 @@ const WORKED: &[Row] = &[
     ),
     (
         "an array",
-        Filter,
+        "filter",
         Calm,
         b"GET / HTTP/1.1\r\nSec-Fetch-Mode: no-cors\r\n\r\n\
          HTTP/1.1 200 OK\r\nContent-Type: application/octet-stream\r\nContent-Length: 5\r\n\r\n\
          [1,2]",
         Done,
         b"HTTP/1.1 403 Forbidden\r\nContent-Length: 0\r\nOrb-Rule: json\r\n\r\n",
+    ),
+    (
+        "a long image past the limit",
+        "explain --limit 1024",
+        Calm,
+        b"GET / HTTP/1.1\r\nSec-Fetch-Mode: no-cors\r\n\r\n\
+         HTTP/1.1 200 OK\r\nContent-Length: 2097158\r\n\r\n\
+         GIF89a~0-2097151:\0~",
+        Done,
+        b"1 allow image na 2097158\n",
+    ),
+    (
+        "a script of the limit",
+        "explain --limit=1024",
+        Calm,
+        b"GET / HTTP/1.1\r\nSec-Fetch-Mode: no-cors\r\n\r\n\
+         HTTP/1.1 200 OK\r\nContent-Type: application/octet-stream\r\nContent-Length: 1024\r\n\r\n\
+         ~1-512:x;~",
+        Done,
+        b"1 allow script na 1024\n",
+    ),
+    (
+        "a script past the limit",
+        "explain --limit=1024",
+        Calm,
+        b"GET / HTTP/1.1\r\nSec-Fetch-Mode: no-cors\r\n\r\n\
+         HTTP/1.1 200 OK\r\nContent-Type: application/octet-stream\r\nContent-Length: 1025\r\n\r\n\
+         ~1-512:x;~ ",
+        Done,
+        b"1 block body-limit na 1025\n",
+    ),
+    (
+        "no script, of the limit",
+        "explain --limit 1024",
+        Calm,
+        b"GET / HTTP/1.1\r\nSec-Fetch-Mode: no-cors\r\n\r\n\
+         HTTP/1.1 200 OK\r\nContent-Type: application/octet-stream\r\nContent-Length: 1024\r\n\r\n\
+         1 2~1-1021: ~",
+        Done,
+        b"1 block not-script na 1024\n",
+    ),
+    (
+        "no script, past the limit",
+        "explain --policy orb --limit 1024",
+        Calm,
+        b"GET / HTTP/1.1\r\nSec-Fetch-Mode: no-cors\r\n\r\n\
+         HTTP/1.1 200 OK\r\nContent-Type: application/octet-stream\r\nContent-Length: 1025\r\n\r\n\
+         1 2~1-1022: ~",
+        Done,
+        b"1 block body-limit na 1025\n",
+    ),
+    (
+        "a page after a comment",
+        "explain --policy corb",
+        Calm,
+        b"GET / HTTP/1.1\r\nSec-Fetch-Mode: no-cors\r\n\r\n\
+         HTTP/1.1 200 OK\r\nContent-Type: text/html\r\nContent-Length: 17\r\n\r\n\
+         <!-- x --> <HTML>",
+        Done,
+        b"1 block corb-html na 17\n",
+    ),
+    (
+        "no page",
+        "explain --policy=corb",
+        Calm,
+        b"GET / HTTP/1.1\r\nSec-Fetch-Mode: no-cors\r\n\r\n\
+         HTTP/1.1 200 OK\r\nContent-Type: text/html\r\nContent-Length: 5\r\n\r\n\
+         hello",
+        Done,
+        b"1 allow corb-unconfirmed na 5\n",
+    ),
+    (
+        "JSON as plain text",
+        "explain --limit 1024 --policy=corb",
+        Calm,
+        b"GET / HTTP/1.1\r\nSec-Fetch-Mode: no-cors\r\n\r\n\
+         HTTP/1.1 200 OK\r\nContent-Type: text/plain\r\nContent-Length: 9\r\n\r\n\
+         {\"a\" : 1}",
+        Done,
+        b"1 block corb-json na 9\n",
+    ),
+    (
+        "a breaker",
+        "explain --policy corb --limit=1024",
+        Calm,
+        b"GET / HTTP/1.1\r\nSec-Fetch-Mode: no-cors\r\n\r\n\
+         HTTP/1.1 200 OK\r\nContent-Length: 4\r\n\r\n\
+         )]}'",
+        Done,
+        b"1 block corb-breaker na 4\n",
     ),
 ];
 
@@ -581,23 +664,21 @@ fn append_range(all: &mut Vec<u8>, range: (u64, u64), text: &[u8]) -> Result<(),
 /// Appends what `8-10:x#` stands for.
 fn append_each(rt: &impl Abort, all: &mut Vec<u8>, text: &[u8]) -> Result<(), Fail> {
     let colon = text.iter().position(|b| *b == b':').expect(rt, "a colon");
-    let (range, behind) = text.split_at(colon);
+    let (range, after) = text.split_at(colon);
     let dash = range.iter().position(|b| *b == b'-').expect(rt, "a dash");
     let first = read_decimal(&range[..dash]).expect(rt, "a first number");
     let last = read_decimal(&range[dash + 1..]).expect(rt, "a last number");
-    append_range(all, (first, last), &behind[1..])
+    append_range(all, (first, last), &after[1..])
 }
 
 /// The bytes that a text stands for.
 fn spelled(rt: &impl Abort, alloc: Global, text: &[u8]) -> Result<Vec<u8>, Fail> {
     let mut all = Vec::new(alloc);
-    for part in text.split(|b| *b == b'{') {
-        match part.iter().position(|b| *b == b'}') {
-            Some(end) => {
-                append_each(rt, &mut all, &part[..end])?;
-                all.extend_from_slice(&part[end + 1..])?;
-            }
-            None => all.extend_from_slice(part)?,
+    for (index, part) in text.split(|b| *b == b'~').enumerate() {
+        if index % 2 == 1 {
+            append_each(rt, &mut all, part)?;
+        } else {
+            all.extend_from_slice(part)?;
         }
     }
     Ok(all)
@@ -631,18 +712,15 @@ fn owes(
     piece: usize,
     faults: (&[u64], &[u64]),
 ) -> Result<(), Fail> {
-    let (name, word, _, recording, owed, wrote) = *row;
-    let text = match word {
-        Filter => "filter",
-        Explain => "explain",
-    };
+    let (name, line, _, recording, owed, wrote) = *row;
+    let words: Vec<&str> = line.split(' ').collect(alloc)?;
     let recording = spelled(rt, alloc, recording)?;
-    let (outcome, sink) = run_words(alloc, &[text], recording, piece, faults)?;
-    assert_eq!(rt; outcome, owed, "{text}, {name} in pieces of {piece}");
+    let (outcome, sink) = run_words(alloc, &words, recording, piece, faults)?;
+    assert_eq!(rt; outcome, owed, "{line}, {name} in pieces of {piece}");
     let wrote = spelled(rt, alloc, wrote)?;
     assert!(rt;
         sink.bytes() == wrote.as_slice(),
-        "{text}, {name} in pieces of {piece}"
+        "{line}, {name} in pieces of {piece}"
     );
     Ok(())
 }
@@ -688,7 +766,9 @@ fn other_words_are_refused(rt: HostRuntime) -> Result<(), Fail> {
         run_alone(rt.alloc(), &["mime"])?.0,
         run_alone(rt.alloc(), &["mime", "-a/b"])?.0,
         run_alone(rt.alloc(), &["mime", "a/b", "c/d"])?.0,
-        run_alone(rt.alloc(), &["serve"])?.0,
+        run_alone(rt.alloc(), &["serve", "127.0.0.1:0", "1"])?.0,
+        run_alone(rt.alloc(), &["filter", "--limit", "1023"])?.0,
+        run_alone(rt.alloc(), &["filter", "--limit=1024", "--limit=1024"])?.0,
     ];
     for answer in answers {
         assert_eq!(rt; answer, Outcome::Usage);

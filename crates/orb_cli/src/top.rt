@@ -1,25 +1,24 @@
 //! The top call.
-ghost use Rattle.std.specs.Prelude.{[]};
+ghost use Rattle.std.specs.Prelude.{[], map, string_bytes};
 ghost use Rattle.orb_io.specs.Told.{Gives};
-ghost use Rattle.orb_cli.specs.Words.{asked_of};
-ghost use Rattle.orb_cli.specs.Answer.{Ran, HasCauses};
+ghost use Rattle.orb_cli.specs.Answer.{Answers, Ran, HasCauses};
 
-use crate::commands::{Command, command_of};
+use crate::commands::settings;
 use crate::judging::judge;
 use crate::mime_word::mime;
 use crate::outcome::Outcome;
+use command_line::{Command, Refused, read_words};
 use orb_io::{Sink, Source};
 use std::alloc::Global;
 
 /// Runs a command line over a source and a sink.
 ///
-/// The words `filter` alone, `explain` alone, and `mime` with a text that doesn't begin with `-`, are
-/// taken. `filter` and `explain` read a recording of HTTP exchanges from the source. `filter` writes
-/// each response that is allowed to the sink, and a reply in the place of each other; `explain` writes
-/// a line for each exchange. `mime` reads nothing and writes the MIME type of the text in a line. The
-/// answer is where the recording ends, or why it was not read or written whole ([`Outcome`]). A fault
-/// is answered only where the source or the sink had one. Want of memory is answered only with
-/// nothing read and nothing written.
+/// The words `filter` and `explain`, with the options `--policy` and `--limit`, and `mime` with a text that doesn't begin with
+/// `-`, are taken ([`command_line`] says exactly which). `filter` and `explain` read a recording of HTTP exchanges from
+/// the source. `filter` writes each response that is allowed to the sink, and a reply in the place of each other; `explain`
+/// writes a line for each exchange. `mime` reads nothing and writes the MIME type of the text in a line. The answer is where
+/// the recording ends, or why it was not read or written whole ([`Outcome`]). A fault is answered only where the source or the
+/// sink had one. Want of memory is answered only with nothing read and nothing written.
 pub fn run<I: Source, O: Sink>(
     alloc: Global,
     words: &[String],
@@ -27,13 +26,20 @@ pub fn run<I: Source, O: Sink>(
     output: &mut O,
 ) -> Outcome
     ensures ran { Gives (O.told output.old) (O.told output.new) []
-        (Ran (asked_of words.now) (I.left input.old) (I.left input.new) result) }
+        (Ran (Answers (map string_bytes words.now)) (I.left input.old) (I.left input.new) result) }
     ensures causes { HasCauses (I.faults input.old) (I.faults input.new)
         (O.faults output.old) (O.faults output.new) result }
 {
-    match command_of(words) {
-        None => Outcome::Usage,
-        Some(Command::Judge(settings)) => judge(alloc, settings, input, output),
-        Some(Command::Mime(text)) => mime(alloc, text, output),
+    let command = match read_words(alloc, words) {
+        Ok(command) => command,
+        Err(Refused::Usage) => return Outcome::Usage,
+        Err(Refused::NoMemory) => return Outcome::NoMemory,
+    };
+    match command {
+        Command::Judge { job, policy, limit } => {
+            judge(alloc, settings(job, policy, limit), input, output)
+        }
+        Command::Mime(text) => mime(alloc, text, output),
+        Command::Trial { .. } | Command::Serve { .. } => Outcome::Usage,
     }
 }

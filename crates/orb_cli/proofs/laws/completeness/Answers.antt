@@ -1,5 +1,17 @@
+use Rattle.orb_cli.specs.Words.{settings_of}
+use Rattle.orb_cli.specs.Answer.{Answers, IsJudgeAnswer, IsMimeAnswer}
+use Rattle.orb_cli.proofs.WordLemmas.{Ran-as, judged_of, mime_of}
 use Rattle.orb_cli.proofs.CompleteLemmas.{complete_recording, complete_text}
 use Rattle.orb_cli.proofs.laws.completeness.Goals as goal
 
 pub returns : goal.returns
-returns c = record { recordings = complete_recording; texts = complete_text }
+returns c = record {
+  recordings = λ words job policy limit bytes r left' wrote m m' n n' answer taken whole ran causes calm calm'.
+      complete_recording (settings_of job policy limit) bytes r left' wrote m m' n n' answer whole
+      (Ran-as (Answers words) (IsJudgeAnswer (settings_of job policy limit)) _ left' answer wrote
+      (λ read ended. judged_of words job policy limit taken answer read ended wrote) ran) causes calm calm';
+  texts = λ words text left left' wrote m m' n n' answer taken ran causes calm.
+      complete_text text left left' wrote m m' n n' answer
+      (Ran-as (Answers words) (λ read ended wrote answer. IsMimeAnswer text read answer wrote) left left' answer wrote
+      (λ read ended. mime_of words text taken answer read ended wrote) ran) causes calm;
+}

@@ -1,0 +1,100 @@
+-- From what the words ask for to what an answer says, and back.
+use Rattle.std.proofs.Common.{◌≡◌, ℕ, Bool, true, false, List, [], Option, refl, sym, ap, ◌∙◌, subst, arith}
+use Rattle.orb_io.specs.Told.{Loses}
+use Rattle.orb_io.proofs.ToldLemmas.{Loses-none}
+use Rattle.command_line.specs.declared.asked.Job.{Job}
+use Rattle.command_line.specs.declared.asked.Policy.{Policy}
+use Rattle.command_line.specs.Taken.{Asked, Judge, Mime, IsTaken}
+use Rattle.command_line.proofs.TakenLemmas.{one_asked}
+use Rattle.orb_cli.specs.declared.outcome.Outcome.{Outcome}
+use Rattle.orb_cli.specs.declared.outcome.Outcome.TheVariants.{Done, Usage, Bad, Cut, HeadLimit, MediaFull, Endless, ReadFault, WriteFault, NoMemory}
+use Rattle.orb_cli.specs.Words.{settings_of, is_run, AreRefused}
+use Rattle.orb_cli.specs.Answer.{IsJudgeAnswer, IsMimeAnswer, IsAnswer, Answers, AnswersWords, Ran, Untouched}
+
+-- what says another thing of an answer
+pub Ran-as : (P Q : (read : List ℕ) (ended : Bool) (wrote : List ℕ) → Outcome → Type 0)
+    (left left' : Option (List ℕ)) (answer : Outcome) (wrote : List ℕ)
+    → ((read : List ℕ) (ended : Bool) → P read ended wrote answer → Q read ended wrote answer)
+    → Ran P left left' answer wrote → Ran Q left left' answer wrote
+Ran-as P Q left left' answer wrote says ran = record {
+  read = ran.read;
+  ended = ran.ended;
+  lost = ran.lost;
+  at_end = ran.at_end;
+  fits = ran.fits;
+  answers = says ran.read ran.ended ran.answers;
+}
+
+-- where nothing was read
+pub Ran-unread : (P : (read : List ℕ) (ended : Bool) (wrote : List ℕ) → Outcome → Type 0)
+    (left : Option (List ℕ)) (answer : Outcome) (wrote : List ℕ) → P [] false wrote answer → Ran P left left answer wrote
+Ran-unread P left answer wrote says = record {
+  read = [];
+  ended = false;
+  lost = Loses-none left;
+  at_end = λ is. absurd (let no : false ≡ true = is in cc);
+  fits = λ never. omega arith;
+  answers = says;
+}
+
+-- of other words than those asked for, the words are refused
+pub refused_by : (words : List (List ℕ)) (asked : Asked) → IsTaken words asked → is_run asked ≡ false → AreRefused words
+refused_by words asked taken other again is = ap is_run (one_asked words again asked is taken) ∙ other
+
+-- the answers to words that are taken
+pub judged_words : (words : List (List ℕ)) (job : Job) (policy : Policy) (limit : ℕ) → IsTaken words (Judge job policy limit)
+    → (answer : Outcome) (read : List ℕ) (ended : Bool) (wrote : List ℕ)
+    → IsJudgeAnswer (settings_of job policy limit) read ended wrote answer → Answers words read ended wrote answer
+judged_words words job policy limit taken Usage read ended wrote says = absurd says
+judged_words words job policy limit taken NoMemory read ended wrote says = says
+judged_words words job policy limit taken Done read ended wrote says = (Judge job policy limit, taken, says)
+judged_words words job policy limit taken (Bad kind place) read ended wrote says = (Judge job policy limit, taken, says)
+judged_words words job policy limit taken (Cut place) read ended wrote says = (Judge job policy limit, taken, says)
+judged_words words job policy limit taken (HeadLimit place) read ended wrote says = (Judge job policy limit, taken, says)
+judged_words words job policy limit taken (MediaFull place) read ended wrote says = (Judge job policy limit, taken, says)
+judged_words words job policy limit taken Endless read ended wrote says = (Judge job policy limit, taken, says)
+judged_words words job policy limit taken ReadFault read ended wrote says = (Judge job policy limit, taken, says)
+judged_words words job policy limit taken WriteFault read ended wrote says = (Judge job policy limit, taken, says)
+
+pub mime_words : (words : List (List ℕ)) (text : List ℕ) → IsTaken words (Mime text)
+    → (answer : Outcome) (read : List ℕ) (ended : Bool) (wrote : List ℕ)
+    → IsMimeAnswer text read answer wrote → Answers words read ended wrote answer
+mime_words words text taken Done read ended wrote says = (Mime text, taken, says)
+mime_words words text taken WriteFault read ended wrote says = (Mime text, taken, says)
+mime_words words text taken NoMemory read ended wrote says = says
+mime_words words text taken _ read ended wrote says = absurd says
+
+-- and what they say where the words ask for this
+said_of : (words : List (List ℕ)) (asked : Asked) (read : List ℕ) (ended : Bool) (wrote : List ℕ) (answer : Outcome)
+    → IsTaken words asked → AnswersWords words read ended wrote answer → IsAnswer asked read ended wrote answer
+said_of words asked read ended wrote answer taken (other, is, says) =
+    subst (λ (a : Asked). IsAnswer a read ended wrote answer) (one_asked words other asked is taken) says
+
+pub judged_of : (words : List (List ℕ)) (job : Job) (policy : Policy) (limit : ℕ) → IsTaken words (Judge job policy limit)
+    → (answer : Outcome) (read : List ℕ) (ended : Bool) (wrote : List ℕ)
+    → Answers words read ended wrote answer → IsJudgeAnswer (settings_of job policy limit) read ended wrote answer
+judged_of words job policy limit taken Usage read ended wrote says =
+    absurd (let no : true ≡ false = says.0 (Judge job policy limit) taken in cc)
+judged_of words job policy limit taken NoMemory read ended wrote says = says
+judged_of words job policy limit taken Done read ended wrote says = said_of words (Judge job policy limit) read ended wrote Done taken says
+judged_of words job policy limit taken (Bad kind place) read ended wrote says = said_of words (Judge job policy limit) read ended wrote (Bad kind place) taken says
+judged_of words job policy limit taken (Cut place) read ended wrote says = said_of words (Judge job policy limit) read ended wrote (Cut place) taken says
+judged_of words job policy limit taken (HeadLimit place) read ended wrote says = said_of words (Judge job policy limit) read ended wrote (HeadLimit place) taken says
+judged_of words job policy limit taken (MediaFull place) read ended wrote says = said_of words (Judge job policy limit) read ended wrote (MediaFull place) taken says
+judged_of words job policy limit taken Endless read ended wrote says = said_of words (Judge job policy limit) read ended wrote Endless taken says
+judged_of words job policy limit taken ReadFault read ended wrote says = said_of words (Judge job policy limit) read ended wrote ReadFault taken says
+judged_of words job policy limit taken WriteFault read ended wrote says = said_of words (Judge job policy limit) read ended wrote WriteFault taken says
+
+pub mime_of : (words : List (List ℕ)) (text : List ℕ) → IsTaken words (Mime text)
+    → (answer : Outcome) (read : List ℕ) (ended : Bool) (wrote : List ℕ)
+    → Answers words read ended wrote answer → IsMimeAnswer text read answer wrote
+mime_of words text taken Usage read ended wrote says = absurd (let no : true ≡ false = says.0 (Mime text) taken in cc)
+mime_of words text taken NoMemory read ended wrote says = says
+mime_of words text taken Done read ended wrote says = said_of words (Mime text) read ended wrote Done taken says
+mime_of words text taken (Bad kind place) read ended wrote says = said_of words (Mime text) read ended wrote (Bad kind place) taken says
+mime_of words text taken (Cut place) read ended wrote says = said_of words (Mime text) read ended wrote (Cut place) taken says
+mime_of words text taken (HeadLimit place) read ended wrote says = said_of words (Mime text) read ended wrote (HeadLimit place) taken says
+mime_of words text taken (MediaFull place) read ended wrote says = said_of words (Mime text) read ended wrote (MediaFull place) taken says
+mime_of words text taken Endless read ended wrote says = said_of words (Mime text) read ended wrote Endless taken says
+mime_of words text taken ReadFault read ended wrote says = said_of words (Mime text) read ended wrote ReadFault taken says
+mime_of words text taken WriteFault read ended wrote says = said_of words (Mime text) read ended wrote WriteFault taken says
