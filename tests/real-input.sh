@@ -12,9 +12,11 @@ made=$(mktemp -d) || exit 70
 trap 'rm -rf "$made"' EXIT
 differ=0
 
-# A word, a recording, and what is owed of it.
+# Words, a recording, and what is owed of it.
 compare() {
-    "$top/orb" "$1" <"$2" >"$made/wrote"
+    # The words are split where they have spaces.
+    # shellcheck disable=SC2086
+    "$top/orb" $1 <"$2" >"$made/wrote"
     status=$?
     if [ "$status" = 0 ] && cmp "$made/wrote" "$3"; then
         echo "real input: $1 of $(basename "$2") is as owed"
@@ -27,7 +29,8 @@ compare() {
 for word in explain filter; do
     compare $word "$data/chromium-windows.rec" "$data/chromium-windows.$word"
     compare $word "$data/chromium-texts.rec" "$data/chromium-texts.$word"
-    compare $word "$data/made.rec" "$data/made.orb.$word"
+    compare "$word --policy orb" "$data/made.rec" "$data/made.orb.$word"
+    compare "$word --policy=corb" "$data/made.rec" "$data/made.corb.$word"
 done
 if "$top/tests/scripts.py" "$data/scripts.jsonl" "$made/scripts.rec" "$made/scripts.explain"; then
     compare explain "$made/scripts.rec" "$made/scripts.explain"
