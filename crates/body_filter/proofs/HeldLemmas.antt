@@ -1,7 +1,7 @@
 -- How much is held back.
 use Rattle.std.proofs.Common.{◌≡◌, ℕ, ◌<◌, ◌≤◌, ◌%◌, Bool, true, false, ◌||◌, ◌&&◌, nat_lt, List, length, if◌then◌else◌, refl, arith}
 use Rattle.std.proofs.lemmas.Bool.Decides.{nat_tests}
-use Rattle.response_rules.specs.Heads.{Head}
+use Rattle.response_rules.specs.Heads.{Case}
 use Rattle.response_rules.specs.Tables.{window_size}
 use Rattle.response_rules.specs.Settled.{is_sent, is_blocked, is_hopeless, is_in_text}
 use Rattle.response_rules.proofs.HopelessLemmas.{hopeful-short}
@@ -16,19 +16,19 @@ within_by false true true dead is t = absurd (grind (arith, is))
 within_by false true false dead is t = refl
 within_by false false over dead is t = absurd (grind (arith, t))
 
-text_fits : (h : Head) (m : List ℕ) (dead : Bool) → is_hopeless h m dead ≡ false → is_in_text h m ≡ true → length m ≤ h.limit
+text_fits : (h : Case) (m : List ℕ) (dead : Bool) → is_hopeless h m dead ≡ false → is_in_text h m ≡ true → length m ≤ h.limit
 unfolding is_hopeless
 text_fits h m dead is text =
     grind (arith, nat_tests, within_by (is_blocked h m) (is_in_text h m) (nat_lt h.limit (length m)) dead is text)
 
-open_short : (h : Head) (m : List ℕ) (dead : Bool) → is_sent h m ≡ false → is_hopeless h m dead ≡ false → is_in_text h m ≡ false → length m ≤ 1024
+open_short : (h : Case) (m : List ℕ) (dead : Bool) → is_sent h m ≡ false → is_hopeless h m dead ≡ false → is_in_text h m ≡ false → length m ≤ 1024
 unfolding window_size
 open_short h m dead unsent hopeful untext =
     let short : length m < 1024 = hopeful-short h m dead unsent hopeful untext in
     omega arith
 
 -- what is kept whole fits
-pub held-fits : (h : Head) (m : List ℕ) (dead : Bool) → 1024 ≤ h.limit → is_sent h m ≡ false → is_hopeless h m dead ≡ false → length m ≤ h.limit
+pub held-fits : (h : Case) (m : List ℕ) (dead : Bool) → 1024 ≤ h.limit → is_sent h m ≡ false → is_hopeless h m dead ≡ false → length m ≤ h.limit
 held-fits h m dead low unsent hopeful = by (is_in_text h m) refl
   where
     by : (t : Bool) → is_in_text h m ≡ t → length m ≤ h.limit
@@ -42,18 +42,18 @@ kept_short false n = omega arith
 
 -- a bound of what is held, from one of a body that is kept whole
 bound_by : (x : Response) (m : List ℕ) (dead : Bool) (most : ℕ) → 1024 ≤ most
-    → (is_sent x.head m ≡ false → is_hopeless x.head m dead ≡ false → length m ≤ most) → held_of x m dead ≤ most
-bound_by x m dead most low holds = by (is_sent x.head m) (is_hopeless x.head m dead) refl refl
+    → (is_sent x.judged m ≡ false → is_hopeless x.judged m dead ≡ false → length m ≤ most) → held_of x m dead ≤ most
+bound_by x m dead most low holds = by (is_sent x.judged m) (is_hopeless x.judged m dead) refl refl
   where
-    by : (s g : Bool) → is_sent x.head m ≡ s → is_hopeless x.head m dead ≡ g → held_of x m dead ≤ most
+    by : (s g : Bool) → is_sent x.judged m ≡ s → is_hopeless x.judged m dead ≡ g → held_of x m dead ≤ most
     by true g sent over =
         rw (held-passing x m dead sent) (let short = kept_short x.chunked (length m) in omega arith)
     by false true unsent over = rw (held-dropping x m dead over) (omega arith)
     by false false unsent hopeful = rw (held-holding x m dead unsent hopeful) (holds unsent hopeful)
 
-pub held-window : (x : Response) (m : List ℕ) (dead : Bool) → is_in_text x.head m ≡ false → held_of x m dead ≤ 1024
+pub held-window : (x : Response) (m : List ℕ) (dead : Bool) → is_in_text x.judged m ≡ false → held_of x m dead ≤ 1024
 held-window x m dead untext =
-    bound_by x m dead 1024 (omega arith) (λ unsent hopeful. open_short x.head m dead unsent hopeful untext)
+    bound_by x m dead 1024 (omega arith) (λ unsent hopeful. open_short x.judged m dead unsent hopeful untext)
 
-pub held-limit : (x : Response) (m : List ℕ) (dead : Bool) → 1024 ≤ x.head.limit → held_of x m dead ≤ x.head.limit
-held-limit x m dead low = bound_by x m dead x.head.limit low (held-fits x.head m dead low)
+pub held-limit : (x : Response) (m : List ℕ) (dead : Bool) → 1024 ≤ x.judged.limit → held_of x m dead ≤ x.judged.limit
+held-limit x m dead low = bound_by x m dead x.judged.limit low (held-fits x.judged m dead low)

@@ -15,38 +15,38 @@ use Rattle.body_filter.specs.Responses.{Response, output_so_far, whole_output}
 use Rattle.orb_bytes.proofs.HexadecimalLemmas.{three_at_most}
 use Rattle.body_filter.proofs.ReplyLemmas.{reply-short}
 use Rattle.http_exchange.proofs.ChunkLemmas.{full_fits, rest-length, rest-short}
-use Rattle.http_exchange.proofs.FramingLaws.{front-on, whole-is}
+use Rattle.http_exchange.proofs.FramingLaws.{prefix-on, whole-is}
 use Rattle.body_filter.proofs.FilterLemmas.{so_far-unsent, so_far-sent}
 
 -- a body that goes out, and a longer one
 body-grows : (chunked : Bool) (m p : List ℕ) → IsPrefix (body_so_far chunked m) (body_so_far chunked (m ++ p))
-body-grows chunked m p = (put_of chunked (kept_of chunked m) p, front-on chunked m p)
+body-grows chunked m p = (put_of chunked (kept_of chunked m) p, prefix-on chunked m p)
 
-pub front-grows : (x : Response) (m more : List ℕ) → IsPrefix (output_so_far x m) (output_so_far x (m ++ more))
-front-grows x m more = by (is_sent x.head m) refl
+pub prefix-grows : (x : Response) (m more : List ℕ) → IsPrefix (output_so_far x m) (output_so_far x (m ++ more))
+prefix-grows x m more = by (is_sent x.judged m) refl
   where
-    by : (b : Bool) → is_sent x.head m ≡ b → IsPrefix (output_so_far x m) (output_so_far x (m ++ more))
+    by : (b : Bool) → is_sent x.judged m ≡ b → IsPrefix (output_so_far x m) (output_so_far x (m ++ more))
     by false unsent = rw (so_far-unsent x m unsent) (IsPrefix-none (output_so_far x (m ++ more)))
     by true sent =
-        rw (so_far-sent x m sent, so_far-sent x (m ++ more) (sent-longer x.head m more sent))
+        rw (so_far-sent x m sent, so_far-sent x (m ++ more) (sent-longer x.judged m more sent))
         (IsPrefix-after x.bytes (body_so_far x.chunked m) (body_so_far x.chunked (m ++ more)) (body-grows x.chunked m more))
 
 -- a whole exchange, by whether its rule allows
-pub whole-allowed : (x : Response) (m : List ℕ) → is_allowing (rule_of x.head m) ≡ true → whole_output x m ≡ x.bytes ++ whole_body x.chunked m
+pub whole-allowed : (x : Response) (m : List ℕ) → is_allowing (rule_of x.judged m) ≡ true → whole_output x m ≡ x.bytes ++ whole_body x.chunked m
 unfolding whole_output
 whole-allowed x m allows = rw allows refl
 
-pub whole-blocked : (x : Response) (m : List ℕ) → is_allowing (rule_of x.head m) ≡ false → whole_output x m ≡ reply_of (rule_of x.head m)
+pub whole-blocked : (x : Response) (m : List ℕ) → is_allowing (rule_of x.judged m) ≡ false → whole_output x m ≡ reply_of (rule_of x.judged m)
 unfolding whole_output
 whole-blocked x m blocks = rw blocks refl
 
-pub front-whole_now : (x : Response) (m : List ℕ) → IsPrefix (output_so_far x m) (whole_output x m)
-front-whole_now x m = by (is_sent x.head m) refl
+pub prefix-whole_now : (x : Response) (m : List ℕ) → IsPrefix (output_so_far x m) (whole_output x m)
+prefix-whole_now x m = by (is_sent x.judged m) refl
   where
-    by : (b : Bool) → is_sent x.head m ≡ b → IsPrefix (output_so_far x m) (whole_output x m)
+    by : (b : Bool) → is_sent x.judged m ≡ b → IsPrefix (output_so_far x m) (whole_output x m)
     by false unsent = rw (so_far-unsent x m unsent) (IsPrefix-none (whole_output x m))
     by true sent =
-        rw (so_far-sent x m sent, whole-allowed x m (sent-allows x.head m sent), whole-is x.chunked m)
+        rw (so_far-sent x m sent, whole-allowed x m (sent-allows x.judged m sent), whole-is x.chunked m)
         (IsPrefix-after x.bytes (body_so_far x.chunked m) (body_so_far x.chunked m ++ end_of x.chunked (kept_of x.chunked m))
         (IsPrefix-append (body_so_far x.chunked m) (end_of x.chunked (kept_of x.chunked m))))
 
@@ -93,17 +93,17 @@ whole-length true m =
 whole-length false m = omega arith
 
 pub so_far-length : (x : Response) (m : List ℕ) → length (output_so_far x m) ≤ length x.bytes + 2 * length m
-so_far-length x m = by (is_sent x.head m) refl
+so_far-length x m = by (is_sent x.judged m) refl
   where
-    by : (b : Bool) → is_sent x.head m ≡ b → length (output_so_far x m) ≤ length x.bytes + 2 * length m
+    by : (b : Bool) → is_sent x.judged m ≡ b → length (output_so_far x m) ≤ length x.bytes + 2 * length m
     by false unsent = rw (so_far-unsent x m unsent) (omega arith)
     by true sent =
         rw (so_far-sent x m sent) (omega (arith, length-append x.bytes (body_so_far x.chunked m), body-length x.chunked m))
 
 pub output-length : (x : Response) (m : List ℕ) → length (whole_output x m) ≤ length x.bytes + 2 * length m + 128
-output-length x m = by (is_allowing (rule_of x.head m)) refl
+output-length x m = by (is_allowing (rule_of x.judged m)) refl
   where
-    by : (b : Bool) → is_allowing (rule_of x.head m) ≡ b → length (whole_output x m) ≤ length x.bytes + 2 * length m + 128
+    by : (b : Bool) → is_allowing (rule_of x.judged m) ≡ b → length (whole_output x m) ≤ length x.bytes + 2 * length m + 128
     by true allows =
         rw (whole-allowed x m allows) (omega (arith, length-append x.bytes (whole_body x.chunked m), whole-length x.chunked m))
-    by false blocks = rw (whole-blocked x m blocks) (omega (arith, reply-short (rule_of x.head m)))
+    by false blocks = rw (whole-blocked x m blocks) (omega (arith, reply-short (rule_of x.judged m)))

@@ -1,7 +1,7 @@
 -- What a filter has read, phase by phase, and how far a response is judged.
 use Rattle.std.proofs.Common.{◌≡◌, ℕ, Bool, true, false, List, [], Result, Ok, Err, OnOk, refl, sym, subst, arith}
 use Rattle.response_rules.specs.declared.deciding.Decider.{Decider}
-use Rattle.response_rules.specs.Heads.{Head}
+use Rattle.response_rules.specs.Heads.{Case}
 use Rattle.response_rules.specs.Reads.{HasRead as DeciderHasRead}
 use Rattle.body_filter.specs.declared.filtering.Filter.{Filter}
 use Rattle.body_filter.specs.declared.judging.Judgement.TheVariants as judgement
@@ -12,7 +12,7 @@ use Rattle.body_filter.specs.Judged.{judged}
 use Rattle.body_filter.specs.Reads.{HasRead, IsSpent, IsMadeFor, Holds, PassesOn, Drops, Stands, limit_of}
 
 -- the phases
-pub reads-holding : (f : Filter) (x : Response) (m : List ℕ) → x.head.limit ≡ limit_of f → DeciderHasRead f.decider x.head m
+pub reads-holding : (f : Filter) (x : Response) (m : List ℕ) → x.judged.limit ≡ limit_of f → DeciderHasRead f.decider x.judged m
     → f.phase ≡ phase.Holding → Holds f x m → HasRead f x m
 reads-holding f x m limit decides is stands = record {
   limit = limit;
@@ -20,7 +20,7 @@ reads-holding f x m limit decides is stands = record {
   stands = let P : Phase → Type 0 = λ p. Stands p f x m in subst P (sym is) stands;
 }
 
-pub reads-passing : (f : Filter) (x : Response) (m : List ℕ) → x.head.limit ≡ limit_of f → DeciderHasRead f.decider x.head m
+pub reads-passing : (f : Filter) (x : Response) (m : List ℕ) → x.judged.limit ≡ limit_of f → DeciderHasRead f.decider x.judged m
     → f.phase ≡ phase.Passing → PassesOn f x m → HasRead f x m
 reads-passing f x m limit decides is stands = record {
   limit = limit;
@@ -28,7 +28,7 @@ reads-passing f x m limit decides is stands = record {
   stands = let P : Phase → Type 0 = λ p. Stands p f x m in subst P (sym is) stands;
 }
 
-pub reads-dropping : (f : Filter) (x : Response) (m : List ℕ) → x.head.limit ≡ limit_of f → DeciderHasRead f.decider x.head m
+pub reads-dropping : (f : Filter) (x : Response) (m : List ℕ) → x.judged.limit ≡ limit_of f → DeciderHasRead f.decider x.judged m
     → f.phase ≡ phase.Dropping → Drops f x m → HasRead f x m
 reads-dropping f x m limit decides is stands = record {
   limit = limit;
@@ -49,7 +49,7 @@ pub idle-spent : (f : Filter) → f.phase ≡ phase.Idle → IsSpent f
 idle-spent f is = λ x m r. let P : Phase → Type 0 = λ p. Stands p f x m in subst P is r.stands
 
 -- the limit that a decider was made with
-pub made-limit : (d : Decider) (most : ℕ) (h : Head) → IsMadeFor d most → DeciderHasRead d h [] → h.limit ≡ most
+pub made-limit : (d : Decider) (most : ℕ) (h : Case) → IsMadeFor d most → DeciderHasRead d h [] → h.limit ≡ most
 made-limit d most h made r = omega (arith, r.counted.left, made.reads.counted.left, made.limit)
 
 -- the judgement

@@ -3,7 +3,7 @@ use Rattle.std.specs.Prelude.{◌≡◌, ℕ, Bool, true, false, List, [], ◌++
 use Rattle.response_rules.specs.declared.deciding.Decider.{Decider}
 use Rattle.response_rules.specs.declared.facts.Facts.{Facts}
 use Rattle.response_rules.specs.declared.verdicts.Verdict.{Verdict}
-use Rattle.response_rules.specs.Heads.{Head}
+use Rattle.response_rules.specs.Heads.{Case}
 use Rattle.response_rules.specs.Settled.{is_sent, is_hopeless}
 use Rattle.response_rules.specs.Facts.{AreFactsOf}
 use Rattle.response_rules.specs.Reads.{HasRead as DeciderHasRead, is_script_dead as is_dead_in}
@@ -36,8 +36,8 @@ is_script_dead f = is_dead_in f.decider
 
 -- nothing has gone out, and the body is kept
 pub record Holds (f : Filter) (x : Response) (m : List ℕ) : Type 0 where
-  pub unsent : is_sent x.head m ≡ false
-  pub hopeful : is_hopeless x.head m (is_dead_in f.decider) ≡ false
+  pub unsent : is_sent x.judged m ≡ false
+  pub hopeful : is_hopeless x.judged m (is_dead_in f.decider) ≡ false
   pub head : f.head.items ≡ x.bytes
   pub held : f.held.items ≡ m
   pub chunked : is_chunked_by f.framer ≡ x.chunked
@@ -45,13 +45,13 @@ pub record Holds (f : Filter) (x : Response) (m : List ℕ) : Type 0 where
 
 -- the body goes out as it comes
 pub record PassesOn (f : Filter) (x : Response) (m : List ℕ) : Type 0 where
-  pub sent : is_sent x.head m ≡ true
+  pub sent : is_sent x.judged m ≡ true
   pub chunked : is_chunked_by f.framer ≡ x.chunked
   pub rest : kept_by f.framer ≡ kept_of x.chunked m
 
 -- no byte of it will, and none is kept
 pub record Drops (f : Filter) (x : Response) (m : List ℕ) : Type 0 where
-  pub over : is_hopeless x.head m (is_dead_in f.decider) ≡ true
+  pub over : is_hopeless x.judged m (is_dead_in f.decider) ≡ true
 
 -- what its fields are in each phase
 abbrev pub Stands : Phase → Filter → Response → List ℕ → Type 0
@@ -62,8 +62,8 @@ Stands phase.Dropping f x m = Drops f x m
 
 -- it has read this prefix of the body of that response, and put what goes out of the response then
 pub record HasRead (f : Filter) (x : Response) (m : List ℕ) : Type 0 where
-  pub limit : x.head.limit ≡ limit_of f
-  pub decides : DeciderHasRead f.decider x.head m
+  pub limit : x.judged.limit ≡ limit_of f
+  pub decides : DeciderHasRead f.decider x.judged m
   pub stands : Stands f.phase f x m
 
 -- it reads a response
@@ -78,13 +78,13 @@ IsSpent f = (x : Response) (m : List ℕ) → HasRead f x m → ⊥
 
 -- the decider is new, and made for a response that is read for a script up to that limit
 pub record IsMadeFor (decider : Decider) (most : ℕ) : Type 0 where
-  pub h : Head
+  pub h : Case
   pub reads : DeciderHasRead decider h []
   pub limit : h.limit ≡ most
 
 -- the facts are those of a response that is read for a script up to that limit
 pub record AreMadeFor (facts : Facts) (most : ℕ) : Type 0 where
-  pub h : Head
+  pub h : Case
   pub of_head : AreFactsOf facts h
   pub limit : h.limit ≡ most
 

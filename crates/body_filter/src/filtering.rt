@@ -36,7 +36,7 @@ impl Filter {
     ghost use Rattle.std.specs.Prelude.{◌≡◌, ℕ, ◌++◌, List, [], length, IfOk, OnOk, OnErr};
     ghost use Rattle.orb_io.specs.Told.{Delivers};
     ghost use Rattle.orb_io.specs.Calls.{Calls};
-    ghost use Rattle.response_rules.specs.Heads.{Head};
+    ghost use Rattle.response_rules.specs.Heads.{Case};
     ghost use Rattle.response_rules.specs.Facts.{AreFactsOf};
     ghost use Rattle.response_rules.specs.Reads.{HasRead as DeciderHasRead, IsVerdict};
     ghost use Rattle.body_filter.specs.Responses.{Response, response_of, output_so_far, whole_output, held_of};
@@ -81,7 +81,7 @@ impl Filter {
     ) -> Result<(), WriteFault>
         requires short { length head.now ≤ 65536 }
         requires made { IsMadeFor decider (limit_of self.old) }
-        ensures delivers { (h : Head) → DeciderHasRead decider h []
+        ensures delivers { (h : Case) → DeciderHasRead decider h []
             → Delivers result (O.told sink.old) (O.told sink.new)
             [] (output_so_far (response_of h head.now chunked) [])
             (λ _. HasRead self.new (response_of h head.now chunked) []) }
@@ -104,7 +104,7 @@ impl Filter {
     ) -> Result<(), WriteFault>
         requires short { length head.now ≤ 65536 }
         requires made { AreMadeFor facts (limit_of self.old) }
-        ensures delivers { (h : Head) → AreFactsOf facts h
+        ensures delivers { (h : Case) → AreFactsOf facts h
             → Delivers result (O.told sink.old) (O.told sink.new)
             [] (output_so_far (response_of h head.now chunked) [])
             (λ _. HasRead self.new (response_of h head.now chunked) []) }
@@ -144,7 +144,7 @@ impl Filter {
         requires { CanFeed self.old }
         ensures delivers { (x : Response) (m : List ℕ) → HasRead self.old x m
             → Delivers result (O.told sink.old) (O.told sink.new)
-            (output_so_far x m) (whole_output x m) (λ v. IsVerdict x.head m v) }
+            (output_so_far x m) (whole_output x m) (λ v. IsVerdict x.judged m v) }
         ensures spent { IsSpent self.new }
         ensures empty { OnOk result (held_in self.new ≡ 0) }
         ensures calls { Calls O.Sink result sink.old sink.new }
@@ -176,7 +176,7 @@ impl Filter {
     ghost use Rattle.std.specs.Prelude.{◌≡◌, ℕ, ◌++◌, List, [], length, OnErr};
     ghost use Rattle.orb_io.specs.Told.{Delivers};
     ghost use Rattle.orb_io.specs.Calls.{Calls, Puts};
-    ghost use Rattle.response_rules.specs.Heads.{Head};
+    ghost use Rattle.response_rules.specs.Heads.{Case};
     ghost use Rattle.response_rules.specs.Reads.{HasRead as DeciderHasRead};
     ghost use Rattle.body_filter.specs.Responses.{Response, response_of, output_so_far};
     ghost use Rattle.body_filter.specs.Reads.{HasRead, CanFeed, IsSpent, IsMadeFor, limit_of, ended_by};
@@ -190,7 +190,7 @@ impl Filter {
     ) -> Result<(), WriteFault>
         requires short { length head.now ≤ 65536 }
         requires made { IsMadeFor self.old.decider (limit_of self.old) }
-        ensures delivers { (h : Head) → DeciderHasRead self.old.decider h []
+        ensures delivers { (h : Case) → DeciderHasRead self.old.decider h []
             → Delivers result (O.told sink.old) (O.told sink.new)
             [] (output_so_far (response_of h head.now chunked) [])
             (λ _. HasRead self.new (response_of h head.now chunked) []) }

@@ -1,6 +1,6 @@
 //! How far a response is judged.
 ghost use Rattle.std.specs.Prelude.{◌≡◌, ◌++◌, Bool, true, false, List, ℕ};
-ghost use Rattle.response_rules.specs.Heads.{Head};
+ghost use Rattle.response_rules.specs.Heads.{Case};
 ghost use Rattle.response_rules.specs.Settled.{is_sent, is_hopeless};
 ghost use Rattle.response_rules.specs.Reads.{HasRead as DeciderHasRead, progress_of, is_script_dead};
 ghost use Rattle.body_filter.specs.Judged.{judged};
@@ -20,7 +20,7 @@ pub(crate) enum Judgement {
 
 /// The judgement on a response so far.
 pub(crate) fn judge(decider: &Decider) -> Judgement
-    ensures { (h : Head) (m : List ℕ) → DeciderHasRead decider.now h m
+    ensures { (h : Case) (m : List ℕ) → DeciderHasRead decider.now h m
         → result ≡ judged (is_sent h m) (is_hopeless h m (is_script_dead decider.now)) }
 {
     judged_by(decider.progress(), decider.is_hopeless())
@@ -28,10 +28,10 @@ pub(crate) fn judge(decider: &Decider) -> Judgement
 
 /// Reads the next piece of the body, and gives the judgement then.
 pub(crate) fn read_on(decider: &mut Decider, piece: &[u8]) -> Judgement
-    ensures reads { (h : Head) (m : List ℕ) → DeciderHasRead decider.old h m → DeciderHasRead decider.new h (m ++ piece.now) }
-    ensures gives { (h : Head) (m : List ℕ) → DeciderHasRead decider.old h m
+    ensures reads { (h : Case) (m : List ℕ) → DeciderHasRead decider.old h m → DeciderHasRead decider.new h (m ++ piece.now) }
+    ensures gives { (h : Case) (m : List ℕ) → DeciderHasRead decider.old h m
         → result ≡ judged (is_sent h (m ++ piece.now)) (is_hopeless h (m ++ piece.now) (is_script_dead decider.new)) }
-    ensures hopeless { (h : Head) (m : List ℕ) → DeciderHasRead decider.old h m
+    ensures hopeless { (h : Case) (m : List ℕ) → DeciderHasRead decider.old h m
         → is_hopeless h m (is_script_dead decider.old) ≡ true
         → is_hopeless h (m ++ piece.now) (is_script_dead decider.new) ≡ true }
 {

@@ -13,7 +13,7 @@ use response_rules::Rule;
 const REPLY: usize = 80;
 
 /// What stands in the reply before the name of the rule.
-const FRONT: &[u8] = b"HTTP/1.1 403 Forbidden\r\nContent-Length: 0\r\nOrb-Rule: ";
+const PREFIX: &[u8] = b"HTTP/1.1 403 Forbidden\r\nContent-Length: 0\r\nOrb-Rule: ";
 
 /// Puts the reply that names the rule, by one push.
 pub(crate) fn put_reply<O: Sink>(rule: Rule, sink: &mut O) -> Result<(), WriteFault>
@@ -26,7 +26,7 @@ fn reply(rule: Rule) -> ArrayVec<u8, REPLY>
     ensures { result.items ≡ reply_of rule }
 {
     let mut text = ArrayVec::new();
-    extend(&mut text, FRONT);
+    extend(&mut text, PREFIX);
     extend(&mut text, rule.name());
     extend(&mut text, b"\r\n\r\n");
     text

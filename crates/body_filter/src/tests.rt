@@ -165,8 +165,8 @@ fn begin(
 }
 
 /// The bytes, and so many times `x` after them, and the others.
-fn text(alloc: Global, front: &[u8], count: u32, back: &[u8]) -> Result<Vec<u8>, Fail> {
-    let mut text = front.to_vec(alloc)?;
+fn text(alloc: Global, prefix: &[u8], count: u32, back: &[u8]) -> Result<Vec<u8>, Fail> {
+    let mut text = prefix.to_vec(alloc)?;
     for _ in 0..count {
         text.push(b'x')?;
     }
@@ -353,7 +353,7 @@ fn chunks_go_out_eight_by_a_push(rt: HostRuntime) -> Result<(), Fail> {
 }
 
 #[test]
-fn a_fault_leaves_a_front_and_a_filter_that_begins_anew(rt: HostRuntime) -> Result<(), Fail> {
+fn a_fault_leaves_a_prefix_and_a_filter_that_begins_anew(rt: HostRuntime) -> Result<(), Fail> {
     let alloc = rt.alloc();
     // the push that fails, the room of the sink, and what it got
     let rows: [(u64, usize, &[u8]); 4] = [

@@ -40,7 +40,7 @@ pub fn read_words(alloc: Global, words: &[String]) -> Result<Command<'_>, Refuse
     }
 }
 
-/// Whether one of the words is `--`, behind which clap takes every word for an operand.
+/// Whether one of the words is `--`, after which clap takes every word for an operand.
 fn has_end_of_options(words: &[String]) -> bool
     ensures { result ≡ list_any is_end_of_options (map string_bytes words.now) }
 {

@@ -123,7 +123,7 @@ tag_from text h =
     (and_from (same_name (take (length h.tag) text) h.tag) (begins_ending (drop (length h.tag) text))
     (ap (λ t. same_name t h.tag) taken ∙ h.same) (ap begins_ending dropped ∙ h.ends))
 
--- what is inside a comment, with one byte more in front
+-- what is inside a comment, with one byte more in prefix
 ends_first : (b : ℕ) (inside rest : List ℕ) → EndsFirst inside
     → starts_with nat_eq (b ∷ (inside ++ (end ++ rest))) end ≡ false → EndsFirst (b ∷ inside)
 ends_first b inside rest first other zero below there =

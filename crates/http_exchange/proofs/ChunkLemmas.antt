@@ -111,21 +111,21 @@ size_line : digits 16 false 1024 ≡ 52 ∷ 48 ∷ 48 ∷ []
 unfolding digits
 size_line = refl
 
-chunk-full : (front back : List ℕ) → length front + length back ≡ 1024
-    → (((52 ∷ 48 ∷ 48 ∷ 13 ∷ 10 ∷ []) ++ front) ++ back) ++ (13 ∷ 10 ∷ []) ≡ chunk (front ++ back)
+chunk-full : (prefix back : List ℕ) → length prefix + length back ≡ 1024
+    → (((52 ∷ 48 ∷ 48 ∷ 13 ∷ 10 ∷ []) ++ prefix) ++ back) ++ (13 ∷ 10 ∷ []) ≡ chunk (prefix ++ back)
 unfolding chunk
-chunk-full front back full =
-    ap (λ d. d ++ (crlf ++ ((front ++ back) ++ crlf)))
-    (sym (ap (digits 16 false) (length-append front back ∙ full) ∙ size_line))
+chunk-full prefix back full =
+    ap (λ d. d ++ (crlf ++ ((prefix ++ back) ++ crlf)))
+    (sym (ap (digits 16 false) (length-append prefix back ∙ full) ∙ size_line))
 
-after : (text line front back end : List ℕ)
-    → (((text ++ line) ++ front) ++ back) ++ end ≡ text ++ (((line ++ front) ++ back) ++ end)
-after text line front back end = simp append_assoc
+after : (text line prefix back end : List ℕ)
+    → (((text ++ line) ++ prefix) ++ back) ++ end ≡ text ++ (((line ++ prefix) ++ back) ++ end)
+after text line prefix back end = simp append_assoc
 
-pub chunk-after : (text front back : List ℕ) → length front + length back ≡ 1024
-    → (((text ++ (52 ∷ 48 ∷ 48 ∷ 13 ∷ 10 ∷ [])) ++ front) ++ back) ++ (13 ∷ 10 ∷ []) ≡ text ++ chunk (front ++ back)
-chunk-after text front back full =
-    after text (52 ∷ 48 ∷ 48 ∷ 13 ∷ 10 ∷ []) front back (13 ∷ 10 ∷ []) ∙ ap (λ t. text ++ t) (chunk-full front back full)
+pub chunk-after : (text prefix back : List ℕ) → length prefix + length back ≡ 1024
+    → (((text ++ (52 ∷ 48 ∷ 48 ∷ 13 ∷ 10 ∷ [])) ++ prefix) ++ back) ++ (13 ∷ 10 ∷ []) ≡ text ++ chunk (prefix ++ back)
+chunk-after text prefix back full =
+    after text (52 ∷ 48 ∷ 48 ∷ 13 ∷ 10 ∷ []) prefix back (13 ∷ 10 ∷ []) ∙ ap (λ t. text ++ t) (chunk-full prefix back full)
 
 pub chunk-some : (bytes : List ℕ) → 0 < length (chunk bytes)
 unfolding chunk

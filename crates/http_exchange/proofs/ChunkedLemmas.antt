@@ -4,11 +4,11 @@ use Rattle.std.proofs.Common.{◌≡◌, ℕ, zero, suc, ◌+◌, ◌*◌, false
 use Rattle.std.proofs.lemmas.Bool.{false≢true}
 use Rattle.std.proofs.lemmas.Bool.Decides.{nat_tests}
 use Rattle.http_exchange.specs.Marks.{Mark, Frame, Content, bytes_of, content_of}
-use Rattle.http_exchange.specs.Chunked.{spell, IsChunkedFront, IsChunkedWhole}
+use Rattle.http_exchange.specs.Chunked.{spell, IsChunkedPrefix, IsChunkedWhole}
 use Rattle.http_exchange.specs.Places.{is_dead, with_left, step, run, marks, gives}
 use Rattle.http_exchange.specs.declared.places.Place.{Place}
 use Rattle.http_exchange.specs.declared.places.Place.TheVariants.{Size, SizeEnding, SizeLf, Data, DataCr, DataLf, LineStart, TrailerLine, TrailerLf, LastLf, Whole, Dead}
-use Rattle.http_exchange.proofs.RunLemmas.{run-append, marks-append, bytes_of-append, bytes_of-marks, alive_front}
+use Rattle.http_exchange.proofs.RunLemmas.{run-append, marks-append, bytes_of-append, bytes_of-marks, alive_prefix}
 use Rattle.http_exchange.proofs.SpellLemmas.{Follows, follows_run, follows_marks, body_follows}
 use Rattle.http_exchange.proofs.Residuals.{body_left, taken}
 
@@ -60,45 +60,45 @@ can_end LastLf alive = by LastLf 10 Whole refl (record { more = []; ends = refl 
 can_end Whole alive = record { more = []; ends = refl }
 can_end Dead alive = absurd (false≢true (sym alive))
 
--- ---- fronts
+-- ---- prefixes
 
-pub front_of_alive : (m : List ℕ) → is_dead (run (Size 0 0) m) ≡ false → IsChunkedFront m (gives (Size 0 0) m)
-front_of_alive m alive =
+pub prefix_of_alive : (m : List ℕ) → is_dead (run (Size 0 0) m) ≡ false → IsChunkedPrefix m (gives (Size 0 0) m)
+prefix_of_alive m alive =
     let e = can_end (run (Size 0 0) m) alive in
     let whole : run (Size 0 0) (m ++ e.more) ≡ Whole = run-append (Size 0 0) m e.more ∙ e.ends in
     let left = body_left (marks (Size 0 0) (m ++ e.more)) (taken (m ++ e.more) (Size 0 0) whole) in
     record {
       body = left.body;
       good = left.good;
-      front = marks (Size 0 0) m;
+      prefix = marks (Size 0 0) m;
       rest = marks (run (Size 0 0) m) e.more;
       spells = sym left.is ∙ marks-append (Size 0 0) m e.more;
       reads = bytes_of-marks (Size 0 0) m;
       gives = refl;
     }
 
--- the front of what leads on leads on
-follows_front : (a b : List Mark) (p q : Place) → Follows p (a ++ b) q → Follows p a (run p (bytes_of a))
-follows_front [] b p q h = refl
-follows_front (Frame x ∷ a) b p q h = (h.0, follows_front a b (step p x) q h.1)
-follows_front (Content x ∷ a) b p q h = (h.0, follows_front a b (step p x) q h.1)
+-- the prefix of what leads on leads on
+follows_prefix : (a b : List Mark) (p q : Place) → Follows p (a ++ b) q → Follows p a (run p (bytes_of a))
+follows_prefix [] b p q h = refl
+follows_prefix (Frame x ∷ a) b p q h = (h.0, follows_prefix a b (step p x) q h.1)
+follows_prefix (Content x ∷ a) b p q h = (h.0, follows_prefix a b (step p x) q h.1)
 
-front_follows : (m given : List ℕ) (h : IsChunkedFront m given) → Follows (Size 0 0) (h.front ++ h.rest) Whole
-front_follows m given h =
+prefix_follows : (m given : List ℕ) (h : IsChunkedPrefix m given) → Follows (Size 0 0) (h.prefix ++ h.rest) Whole
+prefix_follows m given h =
     let P : List Mark → Type 0 = λ k. Follows (Size 0 0) k Whole in subst P h.spells (body_follows h.body h.good)
 
-pub alive_of_front : (m given : List ℕ) → IsChunkedFront m given → is_dead (run (Size 0 0) m) ≡ false
-alive_of_front m given h =
-    let whole = follows_run (Size 0 0) (h.front ++ h.rest) Whole (front_follows m given h) in
-    let parts : run (Size 0 0) (bytes_of h.front ++ bytes_of h.rest) ≡ Whole =
-    ap (run (Size 0 0)) (sym (bytes_of-append h.front h.rest)) ∙ whole in
-    let alive = alive_front (Size 0 0) (bytes_of h.front) (bytes_of h.rest) (ap is_dead parts) in
+pub alive_of_prefix : (m given : List ℕ) → IsChunkedPrefix m given → is_dead (run (Size 0 0) m) ≡ false
+alive_of_prefix m given h =
+    let whole = follows_run (Size 0 0) (h.prefix ++ h.rest) Whole (prefix_follows m given h) in
+    let parts : run (Size 0 0) (bytes_of h.prefix ++ bytes_of h.rest) ≡ Whole =
+    ap (run (Size 0 0)) (sym (bytes_of-append h.prefix h.rest)) ∙ whole in
+    let alive = alive_prefix (Size 0 0) (bytes_of h.prefix) (bytes_of h.rest) (ap is_dead parts) in
     ap (λ l. is_dead (run (Size 0 0) l)) (sym h.reads) ∙ alive
 
-pub gives_of_front : (m given : List ℕ) → IsChunkedFront m given → given ≡ gives (Size 0 0) m
-gives_of_front m given h =
-    let front = follows_front h.front h.rest (Size 0 0) Whole (front_follows m given h) in
-    let same = follows_marks (Size 0 0) h.front (run (Size 0 0) (bytes_of h.front)) front in
+pub gives_of_prefix : (m given : List ℕ) → IsChunkedPrefix m given → given ≡ gives (Size 0 0) m
+gives_of_prefix m given h =
+    let prefix = follows_prefix h.prefix h.rest (Size 0 0) Whole (prefix_follows m given h) in
+    let same = follows_marks (Size 0 0) h.prefix (run (Size 0 0) (bytes_of h.prefix)) prefix in
     sym h.gives ∙ ap content_of (sym same) ∙ ap (gives (Size 0 0)) h.reads
 
 -- ---- whole bodies

@@ -77,9 +77,9 @@ head_length-stays (b ∷ bytes) more n h =
     (λ t four. rw (same, t, four) refl)
     (λ f m some more_. rw (same, f, head_length-stays bytes more m some, more_) refl)
 
--- the first four bytes of a longer front
-front : (n : ℕ) (bytes : List ℕ) → 4 ≤ n → n ≤ length bytes → take 4 (take n bytes) ≡ take 4 bytes
-front n bytes four within =
+-- the first four bytes of a longer prefix
+prefix : (n : ℕ) (bytes : List ℕ) → 4 ≤ n → n ≤ length bytes → take 4 (take n bytes) ≡ take 4 bytes
+prefix n bytes four within =
     sym (take-append-le 4 (take n bytes) (drop n bytes) (omega (arith, length-take-le n bytes within)))
     ∙ ap (take 4) (take-append-drop n bytes)
 
@@ -91,7 +91,7 @@ head_length-alone (b ∷ bytes) zero h = absurd (omega (arith, head_length-bound
 head_length-alone (b ∷ bytes) (suc k) h =
     let bounds = head_length-bounds (b ∷ bytes) (suc k) h in
     let same : begins_with_end (b ∷ take k bytes) ≡ begins_with_end (b ∷ bytes) =
-    ap (λ l. bytes_eq l head_end_bytes) (front (suc k) (b ∷ bytes) (omega arith) (omega arith)) in
+    ap (λ l. bytes_eq l head_end_bytes) (prefix (suc k) (b ∷ bytes) (omega arith) (omega arith)) in
     by_cases (begins_with_end (b ∷ bytes)) (head_length bytes) (suc k) (head_length (b ∷ take k bytes) ≡ Some (suc k)) h
     (λ t four. rw (same, t, four) refl)
     (λ f m some more_.

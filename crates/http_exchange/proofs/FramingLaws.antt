@@ -5,11 +5,11 @@ use Rattle.http_exchange.specs.Chunks.{chunk_size, body_so_far, whole_body, kept
 use Rattle.http_exchange.specs.Framing.{put_of, kept_after, end_of}
 use Rattle.http_exchange.proofs.ChunkLemmas.{chunks-on, rest-on, rest-length, chunks-short, rest-whole}
 
-pub front-on : (chunked : Bool) (m p : List ℕ)
+pub prefix-on : (chunked : Bool) (m p : List ℕ)
     → body_so_far chunked (m ++ p) ≡ body_so_far chunked m ++ put_of chunked (kept_of chunked m) p
 unfolding body_so_far put_of kept_of
-front-on true m p = chunks-on m p
-front-on false m p = refl
+prefix-on true m p = chunks-on m p
+prefix-on false m p = refl
 
 pub kept-on : (chunked : Bool) (m p : List ℕ)
     → kept_of chunked (m ++ p) ≡ kept_after chunked (kept_of chunked m) p
@@ -23,10 +23,10 @@ unfolding body_so_far whole_body end_of kept_of
 whole-is true m = refl
 whole-is false m = sym (append-nil m)
 
-pub front-none : (chunked : Bool) → body_so_far chunked [] ≡ []
+pub prefix-none : (chunked : Bool) → body_so_far chunked [] ≡ []
 unfolding body_so_far
-front-none true = chunks-short [] (omega arith)
-front-none false = refl
+prefix-none true = chunks-short [] (omega arith)
+prefix-none false = refl
 
 pub kept-none : (chunked : Bool) → kept_of chunked [] ≡ []
 unfolding kept_of
@@ -56,7 +56,7 @@ pub released : (chunked : Bool) (m p : List ℕ)
 released chunked m p =
     ap (λ t. t ++ put_of chunked (kept_after chunked [] m) p) (put-first chunked m)
     ∙ (ap (λ t. body_so_far chunked m ++ put_of chunked t p) (kept-first chunked m)
-    ∙ sym (front-on chunked m p))
+    ∙ sym (prefix-on chunked m p))
 
 pub released-kept : (chunked : Bool) (m p : List ℕ)
     → kept_after chunked (kept_after chunked [] m) p ≡ kept_of chunked (m ++ p)

@@ -67,8 +67,8 @@ gathers-shorter kept piece text rest left short gathers some =
     omega (arith, ap length gathers.is, length-append gathers.done left, some_done gathers.done kept text short gathers.chunks some)
 
 -- the chunks are the first of the whole piece
-gathers-front : (kept piece text rest left : List ℕ) → Gathers kept piece text rest left → IsPrefix text (chunks_of (kept ++ piece))
-gathers-front kept piece text rest left gathers =
+gathers-prefix : (kept piece text rest left : List ℕ) → Gathers kept piece text rest left → IsPrefix text (chunks_of (kept ++ piece))
+gathers-prefix kept piece text rest left gathers =
     let sent = kept ++ gathers.done in (
       chunks_of (rest_of sent ++ left),
       ap chunks_of (whole_piece kept gathers.done left piece gathers.is)
@@ -115,7 +115,7 @@ pub cut-fault : (a b c : Told) (kept piece left rest text left' rest' : List ℕ
     → Gathers rest left text rest' left' → GainsPrefix b c text → GainsPrefix a c (chunks_of (kept ++ piece))
 cut-fault a b c kept piece left rest text left' rest' cut gathers pushed =
     GainsPrefix-longer a c (cut.more ++ text) (chunks_of (kept ++ piece))
-    (gathers-front kept piece (cut.more ++ text) rest' left'
+    (gathers-prefix kept piece (cut.more ++ text) rest' left'
     (gathers-more kept piece cut.more rest left text rest' left' cut.holds gathers))
     (GainsPrefix-after a b c cut.more text cut.gained pushed)
 

@@ -1,4 +1,4 @@
--- The first empty line of two texts, one behind the other: it ends in the seam, or in the second.
+-- The first empty line of two texts, one after the other: it ends in the seam, or in the second.
 use Rattle.std.proofs.Common.{◌≡◌, ◌≢◌, ℕ, zero, suc, ◌+◌, ◌-◌, ◌≤◌, ◌<◌, Bool, true, false, cond, List, [], ◌∷◌, ◌++◌, length, take, drop, Option, None, Some, refl, sym, ap, ◌∙◌, inl, inr, ◌⊎◌, arith, append_assoc, length-append, length-drop, length-take}
 use Rattle.std.specs.Prelude.{bytes_eq, nat_lt}
 use Rattle.std.proofs.lemmas.Bool.Decides.{nat_tests}
@@ -34,15 +34,15 @@ plus_one k None = refl
 plus_one k (Some n) = ap Some (omega arith)
 
 -- where the first text and three bytes of the second have no end, it is that of the second
-pub head_length-behind : (a b : List ℕ) → head_length (a ++ take 3 b) ≡ None
+pub head_length-after : (a b : List ℕ) → head_length (a ++ take 3 b) ≡ None
     → head_length (a ++ b) ≡ option_map (λ n. length a + n) (head_length b)
 unfolding head_length
-head_length-behind [] b h = plus_none (head_length b)
-head_length-behind (x ∷ a) b h =
+head_length-after [] b h = plus_none (head_length b)
+head_length-after (x ∷ a) b h =
     let same : begins_with_end (x ∷ (a ++ take 3 b)) ≡ begins_with_end (x ∷ (a ++ b)) =
     ap (λ t. bytes_eq (x ∷ t) head_end_bytes) (take-seam 3 3 a b (omega arith)) in
     let (here, there) = none_cases (begins_with_end (x ∷ (a ++ take 3 b))) (head_length (a ++ take 3 b)) h in
-    rw (← same, here, head_length-behind a b there) (plus_one (length a) (head_length b))
+    rw (← same, here, head_length-after a b there) (plus_one (length a) (head_length b))
 
 -- fewer than four bytes have no end
 pub head_length-short : (text : List ℕ) → length text ≤ 3 → head_length text ≡ None
@@ -90,7 +90,7 @@ pub head_length-seam : (text piece : List ℕ) → head_length text ≡ None
 head_length-seam text piece none =
     let parts : text ++ piece ≡ before_three text ++ (last_three text ++ piece) =
     ap (λ t. t ++ piece) (sym (take-append-drop (length text - 3) text)) ∙ append_assoc (before_three text) (last_three text) piece in
-    rw parts (head_length-behind (before_three text) (last_three text ++ piece) (short_or_three text piece none))
+    rw parts (head_length-after (before_three text) (last_three text ++ piece) (short_or_three text piece none))
 
 -- the end is in the seam
 pub ends_in_seam : (text piece : List ℕ) (n : ℕ) → head_length text ≡ None
@@ -116,7 +116,7 @@ pub ends_in_piece : (text piece : List ℕ) (r : Option ℕ) → head_length tex
     → head_length (last_three text ++ take 3 piece) ≡ None → r ≡ head_length piece → EndsAfter text piece r
 ends_in_piece text piece r none seam found =
     by_answer r (head_length-seam text piece none
-    ∙ ap (option_map (λ k. length (before_three text) + k)) (head_length-behind (last_three text) piece seam ∙ ap (option_map (λ k. length (last_three text) + k)) (sym found)))
+    ∙ ap (option_map (λ k. length (before_three text) + k)) (head_length-after (last_three text) piece seam ∙ ap (option_map (λ k. length (last_three text) + k)) (sym found)))
     found
   where
     by_answer : (r : Option ℕ)
@@ -128,17 +128,17 @@ ends_in_piece text piece r none seam found =
         (is ∙ ap Some (omega (arith, three_bytes text)), omega arith, omega arith)
 
 -- a piece that completes a head
-pub takes_whole : (text piece front new : List ℕ) (k used : ℕ) → IsOpenHead text → front ≡ take k piece
-    → length text + k ≡ head_limit → EndsAfter text front (Some used) → new ≡ text ++ take used front
+pub takes_whole : (text piece prefix new : List ℕ) (k used : ℕ) → IsOpenHead text → prefix ≡ take k piece
+    → length text + k ≡ head_limit → EndsAfter text prefix (Some used) → new ≡ text ++ take used prefix
     → TakesHead text new piece (taken.Whole used)
-takes_whole text piece front new k used open_ is room (ends, some, within) new_is =
+takes_whole text piece prefix new k used open_ is room (ends, some, within) new_is =
     let less : used ≤ k = omega (arith, ap length is, length-take k piece) in
     let short : used ≤ length piece = omega (arith, ap length is, length-take k piece) in
-    let same : take used front ≡ take used piece = ap (take used) is ∙ take-take used k piece less in
-    let size : length (take used front) ≡ used = length-take-le used front within in
-    let sized : length new ≡ length text + used = ap length new_is ∙ length-append text (take used front) ∙ ap (λ n. length text + n) size in
-    let cut : take (length text + used) (text ++ front) ≡ new = take-append-add text front used ∙ sym new_is in
-    let ended : head_length new ≡ Some (length text + used) = rw (← cut) (head_length-alone (text ++ front) (length text + used) ends) in (
+    let same : take used prefix ≡ take used piece = ap (take used) is ∙ take-take used k piece less in
+    let size : length (take used prefix) ≡ used = length-take-le used prefix within in
+    let sized : length new ≡ length text + used = ap length new_is ∙ length-append text (take used prefix) ∙ ap (λ n. length text + n) size in
+    let cut : take (length text + used) (text ++ prefix) ≡ new = take-append-add text prefix used ∙ sym new_is in
+    let ended : head_length new ≡ Some (length text + used) = rw (← cut) (head_length-alone (text ++ prefix) (length text + used) ends) in (
       some,
       short,
       new_is ∙ ap (λ t. text ++ t) same,
@@ -148,12 +148,12 @@ takes_whole text piece front new k used open_ is room (ends, some, within) new_i
       },
     )
 
--- a piece behind which the head goes on, or is too long
-pub takes_long : (text piece front new : List ℕ) (k : ℕ) → front ≡ take k piece
-    → head_length (text ++ front) ≡ None → new ≡ text ++ front → length new ≡ head_limit
+-- a piece after which the head goes on, or is too long
+pub takes_long : (text piece prefix new : List ℕ) (k : ℕ) → prefix ≡ take k piece
+    → head_length (text ++ prefix) ≡ None → new ≡ text ++ prefix → length new ≡ head_limit
     → TakesHead text new piece taken.Long
-takes_long text piece front new k is none new_is full = (
-  front,
+takes_long text piece prefix new k is none new_is full = (
+  prefix,
   drop k piece,
   sym (take-append-drop k piece) ∙ ap (λ t. t ++ drop k piece) (sym is),
   new_is,
@@ -163,13 +163,13 @@ takes_long text piece front new k is none new_is full = (
   },
 )
 
-pub takes_open : (text piece front new : List ℕ) (k : ℕ) → front ≡ take k piece → length text + k ≡ head_limit
-    → head_length (text ++ front) ≡ None → new ≡ text ++ front → length new ≢ head_limit
+pub takes_open : (text piece prefix new : List ℕ) (k : ℕ) → prefix ≡ take k piece → length text + k ≡ head_limit
+    → head_length (text ++ prefix) ≡ None → new ≡ text ++ prefix → length new ≢ head_limit
     → TakesHead text new piece taken.Open
-takes_open text piece front new k is room none new_is short =
-    let size : length new ≡ length text + length front = ap length new_is ∙ length-append text front in
-    let fits : length front ≤ k = omega (arith, ap length is, length-take k piece) in
-    let less : length front < k = omega arith in
+takes_open text piece prefix new k is room none new_is short =
+    let size : length new ≡ length text + length prefix = ap length new_is ∙ length-append text prefix in
+    let fits : length prefix ≤ k = omega (arith, ap length is, length-take k piece) in
+    let less : length prefix < k = omega arith in
     let few : length piece ≤ k = omega (arith, ap length is, length-take k piece) in
-    let all : front ≡ piece = is ∙ take_all k piece few in
+    let all : prefix ≡ piece = is ∙ take_all k piece few in
     (new_is ∙ ap (λ t. text ++ t) all, record { open_ = rw new_is none; fits = omega arith })

@@ -93,16 +93,16 @@ section-fits : (fields : List Field) (end : LineEnd)
     → length (flat_map print_field fields) ≤ length (print_section fields end)
 section-fits fields end = omega (arith, length-append (flat_map print_field fields) (print_end end))
 
-length-behind : (front back : List ℕ) → length back ≤ length (front ++ back)
-length-behind front back = omega (arith, length-append front back)
+length-after : (prefix back : List ℕ) → length back ≤ length (prefix ++ back)
+length-after prefix back = omega (arith, length-append prefix back)
 
 request-fits : (h : RequestHead) → length (print_section h.fields h.last) ≤ length (print_request h)
 unfolding print_request
-request-fits h = length-behind _ (print_section h.fields h.last)
+request-fits h = length-after _ (print_section h.fields h.last)
 
 response-fits : (h : ResponseHead) → length (print_section h.fields h.last) ≤ length (print_response h)
 unfolding print_response
-response-fits h = length-behind _ (print_section h.fields h.last)
+response-fits h = length-after _ (print_section h.fields h.last)
 
 -- the spans of a section that is no longer than the head are its fields
 pub HasFields-found : (head : List ℕ) (n : ℕ) (found : List HeaderSpan) (fields : List Field) (last : LineEnd)

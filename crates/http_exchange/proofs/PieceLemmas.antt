@@ -36,7 +36,7 @@ pub with_left_some : (n : ℕ) → 1 ≤ n → with_left n ≡ Data n
 with_left_some zero some = absurd (omega (arith, some))
 with_left_some (suc n) some = refl
 
--- the content at the front of a piece
+-- the content at the beginning of a piece
 pub takes : (left : ℕ) (piece body : List ℕ) → 1 ≤ left → body ≡ take (min left (length piece)) piece
     → Takes (Data left) (with_left (left - length body)) piece body
 takes left piece body some is =

@@ -1,5 +1,5 @@
 -- What may still come at each place, given by pieces of trees, and that a byte read is a byte in
--- front of it.
+-- prefix of it.
 use Rattle.std.proofs.Common.{◌≡◌, ℕ, zero, suc, ◌+◌, ◌*◌, ◌<◌, ◌≤◌, Bool, true, false, cond, nat_lt, nat_le, ◌==◌, List, [], ◌∷◌, length, refl, sym, ap, subst, ◌∙◌, arith, ◌⊎◌, inl, inr}
 use Rattle.std.specs.List.{list_all}
 use Rattle.std.specs.Char.{is_ascii_hexdigit, digit_value}
@@ -33,12 +33,12 @@ pub record DataLeft (n : ℕ) (k : List Mark) : Type 0 where
   pub is : k ≡ content load (framing crlf rest)
   pub body : BodyLeft rest
 
--- behind the line of a size
-abbrev pub BehindLeft : ℕ → List Mark → Type 0
-BehindLeft zero k = TrailersLeft k
-BehindLeft (suc n) k = DataLeft (suc n) k
+-- after the line of a size
+abbrev pub AfterLineLeft : ℕ → List Mark → Type 0
+AfterLineLeft zero k = TrailersLeft k
+AfterLineLeft (suc n) k = DataLeft (suc n) k
 
--- digits, what ends them, and what is behind the line
+-- digits, what ends them, and what is after the line
 pub record SizeLeft (n d : ℕ) (k : List Mark) : Type 0 where
   pub digits : List ℕ
   pub ending : List ℕ
@@ -48,26 +48,26 @@ pub record SizeLeft (n d : ℕ) (k : List Mark) : Type 0 where
   pub hex : list_all is_ascii_hexdigit digits ≡ true
   pub ends : is_ending ending ≡ true
   pub is : k ≡ framing digits (framing ending (framing crlf rest))
-  pub behind : BehindLeft (digits_value_after 16 n digits) rest
+  pub after : AfterLineLeft (digits_value_after 16 n digits) rest
 
--- the rest of a line, and what is behind it
+-- the rest of a line, and what is after it
 pub record LineLeft (P : List Mark → Type 0) (k : List Mark) : Type 0 where
   pub bytes : List ℕ
   pub rest : List Mark
   pub all : list_all is_line_byte bytes ≡ true
   pub is : k ≡ framing bytes (framing crlf rest)
-  pub behind : P rest
+  pub after : P rest
 
--- these framing bytes, and what is behind them
+-- these framing bytes, and what is after them
 pub record BytesLeft (bytes : List ℕ) (P : List Mark → Type 0) (k : List Mark) : Type 0 where
   pub rest : List Mark
   pub is : k ≡ framing bytes rest
-  pub behind : P rest
+  pub after : P rest
 
 abbrev pub Left : Place → List Mark → Type 0
 Left (Size n d) k = SizeLeft n d k
-Left (SizeEnding n) k = LineLeft (BehindLeft n) k
-Left (SizeLf n) k = BytesLeft (10 ∷ []) (BehindLeft n) k
+Left (SizeEnding n) k = LineLeft (AfterLineLeft n) k
+Left (SizeLf n) k = BytesLeft (10 ∷ []) (AfterLineLeft n) k
 Left (Data zero) k = Unit {0}
 Left (Data (suc n)) k = DataLeft (suc n) k
 Left DataCr k = BytesLeft crlf BodyLeft k
@@ -97,7 +97,7 @@ line_back P b k good h = record {
   rest = h.rest;
   all = and_from (is_line_byte b) (list_all is_line_byte h.bytes) good h.all;
   is = ap (λ l. Frame b ∷ l) h.is;
-  behind = h.behind;
+  after = h.after;
 }
 
 -- where the line ends here
@@ -107,24 +107,24 @@ cr_back P b k cr h = record {
   rest = h.rest;
   all = refl;
   is = ap (λ c. Frame c ∷ k) cr ∙ ap (λ l. Frame 13 ∷ l) h.is;
-  behind = h.behind;
+  after = h.after;
 }
 
--- a byte in front of some bytes
+-- a byte in prefix of some bytes
 byte_back : (P : List Mark → Type 0) (b c : ℕ) (bytes : List ℕ) (k : List Mark) → b ≡ c → BytesLeft bytes P k → BytesLeft (c ∷ bytes) P (Frame b ∷ k)
 byte_back P b c bytes k same h = record {
   rest = h.rest;
   is = ap (λ e. Frame e ∷ k) same ∙ ap (λ l. Frame c ∷ l) h.is;
-  behind = h.behind;
+  after = h.after;
 }
 
--- a byte in front of what has no bytes to come
+-- a byte in prefix of what has no bytes to come
 last_back : (P : List Mark → Type 0) (b c : ℕ) (k : List Mark) → b ≡ c → P k → BytesLeft (c ∷ []) P (Frame b ∷ k)
-last_back P b c k same h = record { rest = k; is = ap (λ e. Frame e ∷ k) same; behind = h }
+last_back P b c k same h = record { rest = k; is = ap (λ e. Frame e ∷ k) same; after = h }
 
-behind_left : (n : ℕ) (k : List Mark) → Left (after_size n) k → BehindLeft n k
-behind_left zero k h = h
-behind_left (suc n) k h = h
+after_left : (n : ℕ) (k : List Mark) → Left (after_size n) k → AfterLineLeft n k
+after_left zero k h = h
+after_left (suc n) k h = h
 
 data_back : (n b : ℕ) (k : List Mark) → Left (with_left n) k → DataLeft (suc n) (Content b ∷ k)
 data_back zero b k h = record {
@@ -132,7 +132,7 @@ data_back zero b k h = record {
   rest = h.rest;
   long = refl;
   is = ap (λ l. Content b ∷ l) h.is;
-  body = h.behind;
+  body = h.after;
 }
 data_back (suc n) b k h = record {
   load = b ∷ h.load;
@@ -157,10 +157,10 @@ digit_back n d b k hex less h =
       hex = and_from (is_ascii_hexdigit b) (list_all is_ascii_hexdigit h.digits) hex h.hex;
       ends = h.ends;
       is = ap (λ l. Frame b ∷ l) h.is;
-      behind = h.behind;
+      after = h.after;
     }
 
-separator_back : (n d b : ℕ) (k : List Mark) → (d == 0) ≡ false → is_separator b ≡ true → LineLeft (BehindLeft n) k → SizeLeft n d (Frame b ∷ k)
+separator_back : (n d b : ℕ) (k : List Mark) → (d == 0) ≡ false → is_separator b ≡ true → LineLeft (AfterLineLeft n) k → SizeLeft n d (Frame b ∷ k)
 separator_back n d b k some sep h =
     let above : 1 ≤ d = grind (arith, nat_tests) in
     record {
@@ -172,10 +172,10 @@ separator_back n d b k some sep h =
       hex = refl;
       ends = and_from (is_separator b) (list_all is_line_byte h.bytes) sep h.all;
       is = ap (λ l. Frame b ∷ l) h.is;
-      behind = h.behind;
+      after = h.after;
     }
 
-size_cr_back : (n d b : ℕ) (k : List Mark) → (d == 0) ≡ false → b ≡ 13 → BytesLeft (10 ∷ []) (BehindLeft n) k → SizeLeft n d (Frame b ∷ k)
+size_cr_back : (n d b : ℕ) (k : List Mark) → (d == 0) ≡ false → b ≡ 13 → BytesLeft (10 ∷ []) (AfterLineLeft n) k → SizeLeft n d (Frame b ∷ k)
 size_cr_back n d b k some cr h =
     let above : 1 ≤ d = grind (arith, nat_tests) in
     record {
@@ -187,7 +187,7 @@ size_cr_back n d b k some cr h =
       hex = refl;
       ends = refl;
       is = ap (λ c. Frame c ∷ k) cr ∙ ap (λ l. Frame 13 ∷ l) h.is;
-      behind = h.behind;
+      after = h.after;
     }
 
 size_back : (n d b : ℕ) (k : List Mark) → Left (step (Size n d) b) k → SizeLeft n d (Frame b ∷ k)
@@ -213,11 +213,11 @@ size_back n d b k h =
       ]
     ]
 
--- a line of a size, and what is behind it, begin a body
+-- a line of a size, and what is after it, begin a body
 line_of : (digits ending : List ℕ) → SizeLine
 line_of digits ending = record { digits = digits; ending = ending }
 
-body_of : (l : SizeLine) (n : ℕ) (rest : List Mark) → IsSizeLine l → size_of l ≡ n → BehindLeft n rest → BodyLeft (spell_size l rest)
+body_of : (l : SizeLine) (n : ℕ) (rest : List Mark) → IsSizeLine l → size_of l ≡ n → AfterLineLeft n rest → BodyLeft (spell_size l rest)
 body_of l zero rest good is h = record {
   body = last l h.trailers;
   good = (good, is, h.good);
@@ -238,7 +238,7 @@ body_left k h =
       hex = h.hex;
       ending = h.ends;
     } in
-    let all = body_of line (digits_value_after 16 0 h.digits) h.rest good refl h.behind in
+    let all = body_of line (digits_value_after 16 0 h.digits) h.rest good refl h.after in
     subst BodyLeft (sym h.is) all
 
 -- ---- trailers
@@ -257,7 +257,7 @@ trailer_back : (b : ℕ) (k : List Mark) → is_line_byte b ≡ true → LineLef
 trailer_back b k good h =
     let all : list_all is_line_byte (b ∷ h.bytes) ≡ true = and_from (is_line_byte b) (list_all is_line_byte h.bytes) good h.all in
     let long : is_trailer (b ∷ h.bytes) ≡ true = and_from _ _ (one_or_more h.bytes) all in
-    subst TrailersLeft (ap (λ l. Frame b ∷ l) (sym h.is)) (more_trailers (b ∷ h.bytes) h.rest long h.behind)
+    subst TrailersLeft (ap (λ l. Frame b ∷ l) (sym h.is)) (more_trailers (b ∷ h.bytes) h.rest long h.after)
 
 -- ---- all places
 
@@ -266,16 +266,16 @@ back (Size n d) b k h = size_back n d b k h
 back (SizeEnding n) b k h =
     let P : Place → Type 0 = λ p. Left p k in
     elim (split P (is_line_byte b) (SizeEnding n) (cond (b == 13) (SizeLf n) Dead) h) [
-      | inl x ↦ line_back (BehindLeft n) b k x.0 x.1
+      | inl x ↦ line_back (AfterLineLeft n) b k x.0 x.1
       | inr x ↦ elim (split P (b == 13) (SizeLf n) Dead x.1) [
-        | inl y ↦ cr_back (BehindLeft n) b k (is_cr b y.0) y.1
+        | inl y ↦ cr_back (AfterLineLeft n) b k (is_cr b y.0) y.1
         | inr y ↦ absurd y.1
       ]
     ]
 back (SizeLf n) b k h =
     let P : Place → Type 0 = λ p. Left p k in
     elim (split P (b == 10) (after_size n) Dead h) [
-      | inl x ↦ last_back (BehindLeft n) b 10 k (is_ten b x.0) (behind_left n k x.1)
+      | inl x ↦ last_back (AfterLineLeft n) b 10 k (is_ten b x.0) (after_left n k x.1)
       | inr x ↦ absurd x.1
     ]
 back (Data zero) b k h = tt

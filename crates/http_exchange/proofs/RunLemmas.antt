@@ -47,9 +47,9 @@ pub end_is : (p : Place) → is_end p ≡ true → p ≡ Whole
 end_is Whole h = refl
 end_is _ h = absurd (false≢true h)
 
--- a front of what was read by a living place was read by one
-pub alive_front : (p : Place) (a b : List ℕ) → is_dead (run p (a ++ b)) ≡ false → is_dead (run p a) ≡ false
-alive_front p a b alive =
+-- a prefix of what was read by a living place was read by one
+pub alive_prefix : (p : Place) (a b : List ℕ) → is_dead (run p (a ++ b)) ≡ false → is_dead (run p a) ≡ false
+alive_prefix p a b alive =
     ⊎_elim (λ d. absurd (false≢true (sym alive ∙ ap is_dead (run-append p a b ∙ ap (λ q. run q b) (dead_is (run p a) d) ∙ run-dead b))))
     (λ f. f) (cases_Bool (is_dead (run p a)))
 

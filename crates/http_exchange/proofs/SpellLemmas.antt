@@ -83,9 +83,9 @@ data_follows : (load : List ℕ) (rest : List Mark) (q : Place) → Follows Data
 data_follows [] rest q h = h
 data_follows (b ∷ load) rest q h = (refl, data_follows load rest q h)
 
-behind_some : (n : ℕ) → 1 ≤ n → after_size n ≡ with_left n
-behind_some zero h = absurd (omega (arith, h))
-behind_some (suc n) h = refl
+after_some : (n : ℕ) → 1 ≤ n → after_size n ≡ with_left n
+after_some zero h = absurd (omega (arith, h))
+after_some (suc n) h = refl
 
 line_follows : (bytes : List ℕ) (rest : List Mark) (q : Place) → list_all is_line_byte bytes ≡ true
     → Follows LineStart rest q → Follows TrailerLine (framing bytes (framing crlf rest)) q
@@ -112,7 +112,7 @@ pub body_follows : (c : Chunked) → IsChunked c → Follows (Size 0 0) (spell c
 body_follows (chunk line load others) good =
     size_follows line _ Whole good.0
     (at (after_size (size_of line)) (with_left (length load)) _ Whole
-    (behind_some (size_of line) good.1 ∙ ap with_left (sym good.2))
+    (after_some (size_of line) good.1 ∙ ap with_left (sym good.2))
     (data_follows load _ Whole (refl, (refl, body_follows others good.3))))
 body_follows (last line trailers) good =
     size_follows line _ Whole good.0

@@ -74,11 +74,11 @@ pub record IsChunkedWhole (m : List ℕ) : Type 0 where
   pub spells : bytes_of (spell body) ≡ m
 
 -- a chunked body begins with the bytes, and among them these are the content bytes
-pub record IsChunkedFront (m given : List ℕ) : Type 0 where
+pub record IsChunkedPrefix (m given : List ℕ) : Type 0 where
   pub body : Chunked
   pub good : IsChunked body
-  pub front : List Mark
+  pub prefix : List Mark
   pub rest : List Mark
-  pub spells : spell body ≡ front ++ rest
-  pub reads : bytes_of front ≡ m
-  pub gives : content_of front ≡ given
+  pub spells : spell body ≡ prefix ++ rest
+  pub reads : bytes_of prefix ≡ m
+  pub gives : content_of prefix ≡ given

@@ -15,6 +15,6 @@ EndsAfter text piece (Some used) =
 abbrev pub TakesHead : (before after piece : List ℕ) → HeadTaken → Type 0
 TakesHead before after piece taken.Open = (after ≡ before ++ piece) × IsOpenHead after
 TakesHead before after piece taken.Long =
-    (front : List ℕ) × (rest : List ℕ) × (piece ≡ front ++ rest) × (after ≡ before ++ front) × IsLongHead after
+    (prefix : List ℕ) × (rest : List ℕ) × (piece ≡ prefix ++ rest) × (after ≡ before ++ prefix) × IsLongHead after
 TakesHead before after piece (taken.Whole used) =
     (1 ≤ used) × (used ≤ length piece) × (after ≡ before ++ take used piece) × IsHeadText after

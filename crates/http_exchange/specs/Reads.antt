@@ -1,6 +1,6 @@
 -- What an unframer has read, and what its calls answer.
 use Rattle.std.specs.Prelude.{◌≡◌, ℕ, ◌+◌, ◌<◌, ◌≤◌, Bool, false, true, ◌==◌, List, [], ◌++◌, length, take}
-use Rattle.http_exchange.specs.Frames.{IsFront, IsWhole, IsBadAt}
+use Rattle.http_exchange.specs.Frames.{IsBodyPrefix, IsWhole, IsBadAt}
 use Rattle.http_exchange.specs.Places.{is_dead, is_end, run, gives}
 use Rattle.http_exchange.specs.declared.frames.BodyFrame.{BodyFrame}
 use Rattle.http_exchange.specs.declared.frames.BodyFrame.TheVariants as frame
@@ -41,12 +41,12 @@ pub record HasRead (u : Unframer) (f : BodyFrame) (m given : List ℕ) : Type 0 
 pub record Gets (u : Unframer) (f : BodyFrame) (m given piece body : List ℕ) (used : ℕ) : Type 0 where
   pub within : used ≤ length piece
   pub reads : HasRead u f (m ++ take used piece) (given ++ body)
-  pub front : IsFront f (m ++ take used piece) (given ++ body)
+  pub prefix : IsBodyPrefix f (m ++ take used piece) (given ++ body)
   -- a byte was read, unless there is none or the body is whole; and none after its end
   pub moves : used ≡ 0 → 1 ≤ length piece → IsWhole f m
   pub stays : IsWhole f m → used ≡ 0
   -- the byte after those that were read isn't content
-  pub runs : used < length piece → (g : List ℕ) → IsFront f (m ++ take (used + 1) piece) g → g ≡ given ++ body
+  pub runs : used < length piece → (g : List ℕ) → IsBodyPrefix f (m ++ take (used + 1) piece) g → g ≡ given ++ body
   -- where there is no content byte, the piece or the body ended
   pub rests : body ≡ [] → used < length piece → IsWhole f (m ++ take used piece)
   -- no byte was bad before a content byte

@@ -7,7 +7,7 @@ use memchr::memmem;
 /// The end of a line and an empty line.
 const END: [u8; 4] = *b"\r\n\r\n";
 
-/// The place behind the first CR LF CR LF of the bytes; `None` exactly where there is none.
+/// The place after the first CR LF CR LF of the bytes; `None` exactly where there is none.
 pub fn head_end(bytes: &[u8]) -> Option<usize>
     ensures value { result ≡ head_length bytes.now }
     ensures within { IfSome result (λ n. n ≤ length bytes.now) }

@@ -136,13 +136,13 @@ fn gather_chunks<'p>(
 }
 
 /// Appends the full chunk of these bytes and those after them, for which there is room.
-fn append_chunk(text: &mut ArrayVec<u8, BATCH>, front: &[u8], back: &[u8])
-    requires full { length front.now + length back.now ≡ 1024 }
+fn append_chunk(text: &mut ArrayVec<u8, BATCH>, prefix: &[u8], back: &[u8])
+    requires full { length prefix.now + length back.now ≡ 1024 }
     requires room { length text.old.items + 1031 ≤ 8248 }
-    ensures { text.new.items ≡ text.old.items ++ chunk (front.now ++ back.now) }
+    ensures { text.new.items ≡ text.old.items ++ chunk (prefix.now ++ back.now) }
 {
     extend(text, b"400\r\n");
-    extend(text, front);
+    extend(text, prefix);
     extend(text, back);
     extend(text, b"\r\n");
 }

@@ -22,7 +22,7 @@ pub enum Taken<'p> {
     },
 }
 
-/// Reads the front of a piece of a chunked body: the place behind it, and what was taken.
+/// Reads the beginning of a piece of a chunked body: the place after it, and what was taken.
 pub(crate) fn take_chunks<'p>(start: Place, piece: &'p [u8]) -> (Place, Taken<'p>)
     requires { IsSound start }
     ensures taken { TakesChunks start result.0 piece.now result.1 }
@@ -32,9 +32,9 @@ pub(crate) fn take_chunks<'p>(start: Place, piece: &'p [u8]) -> (Place, Taken<'p
         Ok(passed) => passed,
         Err(at) => return (Place::Dead, Taken::Bad { at }),
     };
-    let (behind, body) = take_content(place, piece.split_at(used).1);
+    let (after, body) = take_content(place, piece.split_at(used).1);
     (
-        behind,
+        after,
         Taken::Got {
             body,
             used: used + body.len(),
@@ -42,7 +42,7 @@ pub(crate) fn take_chunks<'p>(start: Place, piece: &'p [u8]) -> (Place, Taken<'p
     )
 }
 
-/// Reads the framing bytes at the front of a piece: the place behind them and their number, up to
+/// Reads the framing bytes at the beginning of a piece: the place after them and their number, up to
 /// a content byte, the end of the body or the end of the piece; or the place of one that is refused.
 fn pass_framing(start: Place, piece: &[u8]) -> Result<(Place, usize), usize>
     requires { IsSound start }
@@ -63,7 +63,7 @@ fn pass_framing(start: Place, piece: &[u8]) -> Result<(Place, usize), usize>
     Ok((place, piece.len()))
 }
 
-/// Reads the content bytes at the front of a piece: the place behind them, and them.
+/// Reads the content bytes at the beginning of a piece: the place after them, and them.
 fn take_content<'p>(start: Place, piece: &'p [u8]) -> (Place, &'p [u8])
     requires { IsSound start }
     ensures taken { Takes start result.0 piece.now result.1.now }
@@ -72,7 +72,7 @@ fn take_content<'p>(start: Place, piece: &'p [u8]) -> (Place, &'p [u8])
     let Place::Data { left } = start else {
         return (start, &[]);
     };
-    let body = front_of(piece, left);
+    let body = prefix_of(piece, left);
     let rest = left - body.len() as u64;
     if rest == 0 {
         (Place::DataCr, body)
@@ -82,7 +82,7 @@ fn take_content<'p>(start: Place, piece: &'p [u8]) -> (Place, &'p [u8])
 }
 
 /// The first bytes of a piece, at most so many.
-pub(crate) fn front_of(piece: &[u8], most: u64) -> &[u8]
+pub(crate) fn prefix_of(piece: &[u8], most: u64) -> &[u8]
     ensures { result.now ≡ take (min most (length piece.now)) piece.now }
 {
     if most < piece.len() as u64 {

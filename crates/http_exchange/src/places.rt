@@ -26,15 +26,15 @@ const MOST_DIGITS: u8 = 15;
 pub(crate) enum Place {
     /// The digits of a size: so many were read, and this is their number.
     Size { size: u64, digits: u8 },
-    /// What stands behind the digits, up to the CR.
+    /// What stands after the digits, up to the CR.
     SizeEnding { size: u64 },
     /// The LF of the line of a size.
     SizeLf { size: u64 },
     /// So many content bytes of a chunk, at least one.
     Data { left: u64 },
-    /// The CR behind a chunk.
+    /// The CR after a chunk.
     DataCr,
-    /// The LF behind a chunk.
+    /// The LF after a chunk.
     DataLf,
     /// A trailer, or the CR of the empty line that ends the body.
     LineStart,
@@ -76,7 +76,7 @@ impl Place {
     }
 }
 
-/// The place behind a framing byte.
+/// The place after a framing byte.
 pub(crate) fn next(place: Place, b: u8) -> Place
     requires framing { is_content place ≡ false }
     requires sound { IsSound place }
@@ -90,7 +90,7 @@ pub(crate) fn next(place: Place, b: u8) -> Place
             _ if is_quoted_token(b) => Place::SizeEnding { size },
             _ => Place::Dead,
         },
-        Place::SizeLf { size } if b == b'\n' => behind(size),
+        Place::SizeLf { size } if b == b'\n' => after_line(size),
         Place::DataCr if b == b'\r' => Place::DataLf,
         Place::DataLf if b == b'\n' => Place::Size { size: 0, digits: 0 },
         Place::LineStart => match b {
@@ -109,7 +109,7 @@ pub(crate) fn next(place: Place, b: u8) -> Place
     }
 }
 
-/// The place behind a byte where digits of a size come.
+/// The place after a byte where digits of a size come.
 fn next_in_size(size: u64, digits: u8, b: u8) -> Place
     requires few { digits ≤ 15 }
     requires fits { size < 16 ^ digits }
@@ -149,8 +149,8 @@ fn hex_value(b: u8) -> u8
     }
 }
 
-/// The place behind the line of a size.
-fn behind(size: u64) -> Place
+/// The place after the line of a size.
+fn after_line(size: u64) -> Place
     ensures value { result ≡ after_size size }
     ensures sound { IsSound result }
 {

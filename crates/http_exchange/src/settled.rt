@@ -1,7 +1,7 @@
 //! Laws of the definitions: what a caller that cuts a recording into heads and bodies goes by.
 ghost use Rattle.std.specs.Prelude.{◌≡◌, ℕ, List, [], ◌++◌, take, Some};
 ghost use Rattle.http_exchange.specs.Head.{head_length};
-ghost use Rattle.http_exchange.specs.Frames.{HasFront, IsFront, IsWhole};
+ghost use Rattle.http_exchange.specs.Frames.{HasBodyPrefix, IsBodyPrefix, IsWhole};
 ghost use Rattle.http_exchange.specs.Heads.{HasOneRequest, HasOneResponse};
 ghost use Rattle.http_exchange.specs.Reads.{HasRead};
 ghost use Rattle.http_exchange.specs.declared.frames.BodyFrame.{BodyFrame};
@@ -25,15 +25,15 @@ pub fn head_length_stays()
 
 /// What the bytes say that an unframer has read: they begin a body of its frame, and what it gave
 /// are the content bytes among them.
-pub fn unframed_is_front()
-    ensures { (u : Unframer) (f : BodyFrame) (m given : List ℕ) → HasRead u f m given → IsFront f m given }
+pub fn unframed_is_prefix()
+    ensures { (u : Unframer) (f : BodyFrame) (m given : List ℕ) → HasRead u f m given → IsBodyPrefix f m given }
 {}
 
 /// What begins a body has one content, and so does a whole body; what begins it begins a body; and
-/// behind a whole body no byte stands.
-pub fn fronts_of_bodies()
-    ensures one { (f : BodyFrame) (m g h : List ℕ) → IsFront f m g → IsFront f m h → g ≡ h }
-    ensures whole { (f : BodyFrame) (m : List ℕ) → IsWhole f m → (g : List ℕ) × IsFront f m g }
-    ensures shorter { (f : BodyFrame) (m more g : List ℕ) → IsFront f (m ++ more) g → HasFront f m g }
-    ensures last { (f : BodyFrame) (m more g : List ℕ) → IsWhole f m → IsFront f (m ++ more) g → more ≡ [] }
+/// after a whole body no byte stands.
+pub fn prefixes_of_bodies()
+    ensures one { (f : BodyFrame) (m g h : List ℕ) → IsBodyPrefix f m g → IsBodyPrefix f m h → g ≡ h }
+    ensures whole { (f : BodyFrame) (m : List ℕ) → IsWhole f m → (g : List ℕ) × IsBodyPrefix f m g }
+    ensures shorter { (f : BodyFrame) (m more g : List ℕ) → IsBodyPrefix f (m ++ more) g → HasBodyPrefix f m g }
+    ensures last { (f : BodyFrame) (m more g : List ℕ) → IsWhole f m → IsBodyPrefix f (m ++ more) g → more ≡ [] }
 {}

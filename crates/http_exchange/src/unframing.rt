@@ -5,7 +5,7 @@
 ghost use Rattle.std.specs.Prelude.{◌≡◌, ℕ, List, [], ◌↔◌, IsTrue};
 
 use crate::frames::BodyFrame;
-use crate::pieces::{Taken, front_of, take_chunks};
+use crate::pieces::{Taken, prefix_of, take_chunks};
 use crate::places::Place;
 use std::marker::Model;
 
@@ -55,7 +55,7 @@ impl Unframer {
         Unframer { reading }
     }
 
-    /// Reads the front of a piece, up to and with its first run of content bytes, and not behind the
+    /// Reads the beginning of a piece, up to and with its first run of content bytes, and not after the
     /// end of the body: at least one byte, unless the piece is empty or the body has ended. `Bad`
     /// comes only of a chunked body, and exactly where a byte is refused before a content byte; the
     /// unframer then has no further use.
@@ -65,7 +65,7 @@ impl Unframer {
     {
         match self.reading {
             Reading::Counted { left } => {
-                let body = front_of(piece, left);
+                let body = prefix_of(piece, left);
                 self.reading = Reading::Counted {
                     left: left - body.len() as u64,
                 };
@@ -79,8 +79,8 @@ impl Unframer {
                 used: piece.len(),
             },
             Reading::Chunks(place) => {
-                let (behind, taken) = take_chunks(place, piece);
-                self.reading = Reading::Chunks(behind);
+                let (after, taken) = take_chunks(place, piece);
+                self.reading = Reading::Chunks(after);
                 taken
             }
         }

@@ -6,7 +6,7 @@ use Rattle.orb_engine.specs.Recording.{Recording}
 use Rattle.orb_engine.specs.Ends as ends
 use Rattle.orb_engine.specs.Ends.{End}
 use Rattle.orb_engine.specs.Complete.{IsWholeRecording, IsAll}
-use Rattle.orb_engine.proofs.CompleteLemmas.{front_is_all, whole_is_not_endless}
+use Rattle.orb_engine.proofs.CompleteLemmas.{prefix_is_all, whole_is_not_endless}
 use Rattle.orb_cli.specs.declared.outcome.Outcome.{Outcome}
 use Rattle.orb_cli.specs.declared.outcome.Outcome.TheVariants.{Done, Usage, Bad, Cut, HeadLimit, MediaFull, Endless, ReadFault, WriteFault, NoMemory}
 use Rattle.orb_cli.specs.Answer.{EndsAt, IsJudgeAnswer, IsMimeAnswer, Ran, HasCauses}
@@ -17,7 +17,7 @@ whole_ends : (s : Settings) (bytes read rest wrote : List ℕ) (r : Recording) (
     → IsWholeRecording s bytes r → bytes ≡ read ++ rest → (ended ≡ true → rest ≡ []) → (h : EndsAt s read ended wrote stop)
     → (stop ≡ ends.Open → ⊥) → IsAll s r h.recording ended rest
 whole_ends s bytes read rest wrote r ended stop whole lost all h closed =
-    front_is_all s read rest r h.recording ended (subst (λ l. IsWholeRecording s l r) lost whole) h.cut all (λ o. closed (sym h.stops ∙ o))
+    prefix_is_all s read rest r h.recording ended (subst (λ l. IsWholeRecording s l r) lost whole) h.cut all (λ o. closed (sym h.stops ∙ o))
 
 -- it ends in nothing but Done
 whole_is_done : (s : Settings) (bytes read rest wrote : List ℕ) (r : Recording) (ended : Bool) (stop : End)

@@ -70,7 +70,7 @@ fn line(text: &[u8]) -> ArrayVec<u8, 96>
     line
 }
 
-/// The same with a place behind the text.
+/// The same with a place after the text.
 fn line_at(text: &[u8], place: u64) -> ArrayVec<u8, 96>
     requires { length text.now ≤ 16 }
     ensures { result.items ≡ line_text_at text.now place }

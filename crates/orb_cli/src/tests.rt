@@ -64,7 +64,7 @@ const WORKED: &[Row] = &[
         b"",
     ),
     (
-        "a cut request behind an exchange",
+        "a cut request after an exchange",
         "filter",
         Calm,
         b"GET / HTTP/1.1\r\nSec-Fetch-Mode: no-cors\r\n\r\n\
@@ -423,7 +423,7 @@ const WORKED: &[Row] = &[
         b"",
     ),
     (
-        "a pull that fails behind the body",
+        "a pull that fails after the body",
         "filter",
         Pull { piece: 57, call: 2 },
         b"GET / HTTP/1.1\r\nSec-Fetch-Mode: no-cors\r\n\r\n\
@@ -685,7 +685,7 @@ fn spelled(rt: &impl Abort, alloc: Global, text: &[u8]) -> Result<Vec<u8>, Fail>
 }
 
 /// What `run` answers of such words over a recording in pieces of that size, with these calls of the source
-/// and of the sink failing, and the sink behind that.
+/// and of the sink failing, and the sink after that.
 fn run_words(
     alloc: Global,
     texts: &[&str],

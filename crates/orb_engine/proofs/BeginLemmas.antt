@@ -12,7 +12,7 @@ use Rattle.http_exchange.specs.declared.frames.BodyFrame.TheVariants as frame
 use Rattle.http_exchange.specs.declared.places.Place.TheVariants.{Size}
 use Rattle.http_exchange.specs.declared.unframing.Reading.{Reading}
 use Rattle.http_exchange.specs.declared.unframing.Reading.TheVariants.{Counted, Chunks, Rest}
-use Rattle.http_exchange.proofs.UnframerLemmas.{front_read}
+use Rattle.http_exchange.proofs.UnframerLemmas.{prefix_read}
 use Rattle.orb_engine.specs.declared.settings.Settings.{Settings}
 use Rattle.orb_engine.specs.declared.engine.Engine.{Engine}
 use Rattle.orb_engine.specs.declared.engine.states.Asked.{Asked}
@@ -77,7 +77,7 @@ begun-fills incoming asked read e e' s m given more q y kept is gave reads unfra
       spells = spelled asked read e s m given q;
       whole = q.whole.whole;
       good = record { request = q.whole.good; response = q.good };
-      front = front_read incoming.unframer q.response.frame [] [] stands;
+      prefix = prefix_read incoming.unframer q.response.frame [] [] stands;
       gave = gave ∙ owed asked read e s m given q y is;
       taken = kept.taken ∙ q.whole.taken;
       common = common-kept e e' s q.whole.exchanges given more kept q.whole.common;
@@ -101,4 +101,4 @@ begun-breaks asked read e e' s m given more q y kept is within =
     breaks-body e' s m given more q.whole.exchanges _ (rw kept.told q.whole.common.told)
     (subst (λ (t : List ℕ). IsPrefix (given ++ more) t) (owed asked read e s m given q y is) within)
     (seen-body s m q.whole.exchanges c.heads [] [] u (spelled asked read e s m given q) q.whole.whole
-    (record { request = q.whole.good; response = q.good }) (front_read u q.response.frame [] [] stands) (record { stands = stands }))
+    (record { request = q.whole.good; response = q.good }) (prefix_read u q.response.frame [] [] stands) (record { stands = stands }))

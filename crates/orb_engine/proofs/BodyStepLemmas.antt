@@ -3,7 +3,7 @@ use Rattle.std.proofs.Common.{◌≡◌, ℕ, ◌+◌, ◌<◌, ◌≤◌, ◌^�
 use Rattle.std.specs.FinMap as map
 use Rattle.std.proofs.lemmas.List.{append-nil, take-append-drop, length-take-le, take_more}
 use Rattle.std.proofs.Math.Seq.{drop-cons}
-use Rattle.http_exchange.specs.Frames.{IsFront}
+use Rattle.http_exchange.specs.Frames.{IsBodyPrefix}
 use Rattle.http_exchange.specs.Reads.{Gets, Refuses}
 use Rattle.http_exchange.specs.declared.unframing.Unframer.{Unframer}
 use Rattle.http_exchange.specs.declared.refusals.BadKind.TheVariants.{BadChunk}
@@ -24,7 +24,7 @@ use Rattle.orb_engine.specs.Writing.{gathered_by, body_of}
 use Rattle.orb_engine.specs.Reads.{Coming, coming_written, spell_coming, open_cut, table_of, counts_of, Common, Receives, AtBody, Stands, Reads, Stops, Passes, IsInBody, with_unframer}
 use Rattle.orb_engine.proofs.CutLemmas.{spell_exchanges-append, spell_exchanges-length}
 use Rattle.orb_engine.proofs.FillLemmas.{output-body}
-use Rattle.orb_engine.proofs.StepLemmas.{front-short}
+use Rattle.orb_engine.proofs.StepLemmas.{prefix-short}
 use Rattle.orb_engine.proofs.HeadStepLemmas.{IsSameHead, common-same}
 
 body-at : (t : State) (incoming : Incoming) (e : Engine) (s : Settings) (exchanges : List Exchange) (tail : Tail) → t ≡ state.Body incoming
@@ -83,7 +83,7 @@ body-got incoming u e e' s m given piece body used h same gets taken =
       spells = ap (λ x. x ++ take used piece) h.spells ∙ spell-more c.exchanges c.heads c.sent (take used piece);
       whole = h.whole;
       good = h.sending.heads;
-      front = gets.front;
+      prefix = gets.prefix;
       gave = ap (λ w. given ++ gathered_by w) same.writer ∙ h.gave;
       taken = omega (arith, taken, h.taken, length-append m (take used piece), length-take-le used piece gets.within);
       common = common-same e e' s c.exchanges given same h.common;
@@ -101,7 +101,7 @@ pub body-few : (incoming : Incoming) (u : Unframer) (e : Engine) (s : Settings) 
     → e.progress.taken + length piece ≤ 2 ^ 62 → body_of e.writer + length body ≤ 2 ^ 62
 body-few incoming u e s m given piece body used h gets few =
     let c = h.coming in
-    let short = front-short c.heads.response.frame (c.sent ++ take used piece) (c.body ++ body) gets.front in
+    let short = prefix-short c.heads.response.frame (c.sent ++ take used piece) (c.body ++ body) gets.prefix in
     let size : length m ≡ length (spell_exchanges c.exchanges []) + length (spell_heads c.heads c.sent) =
     ap length h.spells ∙ spell_exchanges-length c.exchanges (spell_heads c.heads c.sent) in
     let heads : length (spell_heads c.heads c.sent) ≡ length c.heads.request.bytes + (length c.heads.response.bytes + length c.sent) =
@@ -151,12 +151,12 @@ body-bad incoming u e e' s m given piece at h same refuses =
         tail = record {
           sending = record {
             heads = h.sending.heads;
-            front = refuses.bad.before;
+            prefix = refuses.bad.before;
             unfinished = refuses.bad.unfinished;
           };
           chunked = refuses.chunked;
-          bad = λ g front. refuses.bad.bad g (subst (λ (x : List ℕ). IsFront c.heads.response.frame x g)
-              (append_assoc c.sent (take at piece) (b ∷ []) ∙ ap (λ x. c.sent ++ x) (sym next)) front);
+          bad = λ g prefix. refuses.bad.bad g (subst (λ (x : List ℕ). IsBodyPrefix c.heads.response.frame x g)
+              (append_assoc c.sent (take at piece) (b ∷ []) ∙ ap (λ x. c.sent ++ x) (sym next)) prefix);
         };
         last = λ never. absurd (cc never);
       };

@@ -25,13 +25,13 @@ open_not_done : (a : Recording) → stop_of a false ≡ ends.Done → ⊥
 unfolding stop_of
 open_not_done a h = never_done (length (spell_exchanges a.exchanges [])) a.tail h
 
-pub front_is_all : (s : Settings) (read rest : List ℕ) (r a : Recording) (ended : Bool)
+pub prefix_is_all : (s : Settings) (read rest : List ℕ) (r a : Recording) (ended : Bool)
     → IsWholeRecording s (read ++ rest) r → IsRecording s read a → (ended ≡ true → rest ≡ [])
     → (stop_of a ended ≡ ends.Open → ⊥) → IsAll s r a ended rest
-front_is_all s read rest r a false whole first all closed =
+prefix_is_all s read rest r a false whole first all closed =
     let same = refusal-alone s read rest a r first closed whole.cut in
     absurd (open_not_done a (sym (same.stop true) ∙ whole.done))
-front_is_all s read rest r a true whole first all closed =
+prefix_is_all s read rest r a true whole first all closed =
     let none : rest ≡ [] = all refl in
     let same : read ++ rest ≡ read = ap (λ l. read ++ l) none ∙ append-nil read in
     let one : IsRecording s read r = subst (λ m. IsRecording s m r) same whole.cut in
@@ -53,7 +53,7 @@ ends_all : (e : Engine) (s : Settings) (bytes read rest : List ℕ) (r : Recordi
     → IsWholeRecording s bytes r → bytes ≡ read ++ rest → (ended ≡ true → rest ≡ [])
     → (h : Ends e s read ended P given) → (P ends.Open → ⊥) → IsAll s r h.recording ended rest
 ends_all e s bytes read rest r ended P given whole lost all h closed =
-    front_is_all s read rest r h.recording ended (subst (λ l. IsWholeRecording s l r) lost whole) h.cut all
+    prefix_is_all s read rest r h.recording ended (subst (λ l. IsWholeRecording s l r) lost whole) h.cut all
     (λ o. closed (subst P o h.stop))
 
 -- nor is it another end

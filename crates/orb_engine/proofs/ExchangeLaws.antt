@@ -7,14 +7,14 @@ use Rattle.orb_io.proofs.ToldLemmas.{IsPrefix-all, IsPrefix-none}
 use Rattle.media_state.specs.Table.{States}
 use Rattle.response_rules.specs.declared.rules.Rule.{Rule}
 use Rattle.response_rules.specs.Tables.{rule_of}
-use Rattle.http_exchange.specs.Frames.{IsFront, IsWhole}
-use Rattle.http_exchange.proofs.UnframerLemmas.{one_front}
+use Rattle.http_exchange.specs.Frames.{IsBodyPrefix, IsWhole}
+use Rattle.http_exchange.proofs.UnframerLemmas.{one_prefix}
 use Rattle.orb_engine.specs.declared.settings.Settings.{Settings}
 use Rattle.orb_engine.specs.Heads.{Heads, judged_by, response_of}
 use Rattle.orb_engine.specs.Recording as cut
 use Rattle.orb_engine.specs.Recording.{Exchange, Tail, IsExchange, IsTail, IsOpenBody, IsBadBody, spell_heads, spell_exchange, spell_tail, is_open}
 use Rattle.orb_engine.specs.Outputs.{written_so_far, written_whole, written_tail}
-use Rattle.orb_engine.proofs.BodyLaws.{one_goes_on, longer_front, within_stuck, same_whole}
+use Rattle.orb_engine.proofs.BodyLaws.{one_goes_on, longer_prefix, within_stuck, same_whole}
 use Rattle.orb_engine.proofs.OutputLaws.{written_so_far-grows, written_so_far-whole}
 use Rattle.orb_engine.proofs.StartLaws.{Asked, Answered, IsStart, one_start, ask_of, answer_of, start_of_heads, start_of_tail, same_heads}
 use Rattle.orb_engine.proofs.TailLaws.{whole_not_sending, whole_not_bad, moved, alone, same_tails}
@@ -32,7 +32,7 @@ not_item_by s table i r (cut.InBody k n c) others x y end a b =
 not_item_by s table i r (cut.BadBody k n c d) others x y end a b =
     let h = i.heads in
     let p = same_heads h k _ _ (i.sent ++ r) (n ++ (d ∷ others)) a b in
-    whole_not_bad table h i.sent r n others i.body c d x.whole x.front (moved (λ j. IsBadBody table j n c d) h k p.0 y) p.1
+    whole_not_bad table h i.sent r n others i.body c d x.whole x.prefix (moved (λ j. IsBadBody table j n c d) h k p.0 y) p.1
 not_item_by s table i r _ others x y end a b = absurd (cc)
 
 start_of_item : (s : Settings) (table : States) (i : Exchange) (r : List ℕ) → IsExchange s table i
@@ -61,10 +61,10 @@ same_items_by : (s : Settings) (table : States) (i : Exchange) (r : List ℕ) (j
     → IsExchange s table i → IsExchange s table j → i.heads ≡ j.heads → i.sent ++ r ≡ j.sent ++ q → (i ≡ j) × (r ≡ q)
 same_items_by s table i r j q x y heads e =
     let f = i.heads.response.frame in
-    let front : IsFront f j.sent j.body = subst (λ k. IsFront k.response.frame j.sent j.body) (sym heads) y.front in
+    let prefix : IsBodyPrefix f j.sent j.body = subst (λ k. IsBodyPrefix k.response.frame j.sent j.body) (sym heads) y.prefix in
     let whole : IsWhole f j.sent = subst (λ k. IsWhole k.response.frame j.sent) (sym heads) y.whole in
-    let sent : i.sent ≡ j.sent = same_whole f i.sent r j.sent q i.body j.body x.whole whole x.front front e in
-    let body : i.body ≡ j.body = one_front f i.sent i.body j.body x.front (subst (λ l. IsFront f l j.body) (sym sent) front) in
+    let sent : i.sent ≡ j.sent = same_whole f i.sent r j.sent q i.body j.body x.whole whole x.prefix prefix e in
+    let body : i.body ≡ j.body = one_prefix f i.sent i.body j.body x.prefix (subst (λ l. IsBodyPrefix f l j.body) (sym sent) prefix) in
     let rules : i.rule ≡ j.rule =
     x.decided ∙ ap (λ k. rule_of (judged_by s table k) i.body) heads
     ∙ ap (rule_of (judged_by s table j.heads)) body ∙ sym y.decided in (
@@ -103,23 +103,23 @@ grows_by_item : (s : Settings) (table : States) (h : Heads) (m g x : List ℕ) (
     → IsPrefix (written_so_far s.job (response_of s table h) g) (written_whole s.job number (response_of s table i.heads) i.body)
 grows_by_item s table h m g x i r number sending item heads e =
     let f = h.response.frame in
-    let front : IsFront f i.sent i.body = subst (λ k. IsFront k.response.frame i.sent i.body) (sym heads) item.front in
+    let prefix : IsBodyPrefix f i.sent i.body = subst (λ k. IsBodyPrefix k.response.frame i.sent i.body) (sym heads) item.prefix in
     let whole : IsWhole f i.sent = subst (λ k. IsWhole k.response.frame i.sent) (sym heads) item.whole in
     elim (one_goes_on m x i.sent r e) [
       | inl k ↦
-          let longer = longer_front f m k.more g i.body sending.front (subst (λ l. IsFront f l i.body) k.front front) in
+          let longer = longer_prefix f m k.more g i.body sending.prefix (subst (λ l. IsBodyPrefix f l i.body) k.prefix prefix) in
           let P : List ℕ → Heads → Type 0 =
           λ c j. IsPrefix (written_so_far s.job (response_of s table h) g) (written_whole s.job number (response_of s table j) c) in
           subst (P i.body) heads (subst (λ c. P c h) (sym longer.1) (written_so_far-whole s.job number (response_of s table h) g longer.0))
       | inr k ↦
-          absurd (whole_not_sending table h i.sent k.more m g whole sending (sym k.front))
+          absurd (whole_not_sending table h i.sent k.more m g whole sending (sym k.prefix))
     ]
 
 longer_written : (s : Settings) (table : States) (h k : Heads) (m more g c : List ℕ) → h ≡ k
-    → IsFront h.response.frame m g → IsFront h.response.frame (m ++ more) c
+    → IsBodyPrefix h.response.frame m g → IsBodyPrefix h.response.frame (m ++ more) c
     → IsPrefix (written_so_far s.job (response_of s table h) g) (written_so_far s.job (response_of s table k) c)
 longer_written s table h k m more g c heads x y =
-    let longer = longer_front h.response.frame m more g c x y in
+    let longer = longer_prefix h.response.frame m more g c x y in
     let P : List ℕ → Heads → Type 0 =
     λ d j. IsPrefix (written_so_far s.job (response_of s table h) g) (written_so_far s.job (response_of s table j) d) in
     subst (P c) heads (subst (λ d. P d h) (sym longer.1) (written_so_far-grows s.job (response_of s table h) g longer.0))
@@ -132,14 +132,14 @@ grows_by_tail s table h m g x (cut.InBody k n c) others number sending y end a b
     let f = h.response.frame in
     let p = same_heads h k _ _ (m ++ x) (n ++ others) a b in
     let moves : IsOpenBody table h n c = moved (λ j. IsOpenBody table j n c) h k p.0 y in
-    longer_written s table h k m x g c p.0 sending.front
-    (subst (λ l. IsFront f l c) (sym (p.1 ∙ alone n others (end refl))) moves.front)
+    longer_written s table h k m x g c p.0 sending.prefix
+    (subst (λ l. IsBodyPrefix f l c) (sym (p.1 ∙ alone n others (end refl))) moves.prefix)
 grows_by_tail s table h m g x (cut.BadBody k n c d) others number sending y end a b =
     let f = h.response.frame in
     let p = same_heads h k _ _ (m ++ x) (n ++ (d ∷ others)) a b in
     let moves : IsBadBody table h n c d = moved (λ j. IsBadBody table j n c d) h k p.0 y in
-    let w = within_stuck f m x n others g d moves.bad sending.front p.1 in
-    longer_written s table h k m w.0 g c p.0 sending.front (subst (λ l. IsFront f l c) w.1 moves.sending.front)
+    let w = within_stuck f m x n others g d moves.bad sending.prefix p.1 in
+    longer_written s table h k m w.0 g c p.0 sending.prefix (subst (λ l. IsBodyPrefix f l c) w.1 moves.sending.prefix)
 grows_by_tail s table h m g x _ others number sending y end a b = absurd (cc)
 
 -- what is written of a tail begins what is written of what stands there in longer bytes

@@ -79,7 +79,7 @@ goes-on incoming e s m given f is unfinished =
       cut = record {
         spells = spelled incoming e s m given f;
         exchanges = f.whole;
-        tail = record { heads = f.good; front = f.front; unfinished = unfinished };
+        tail = record { heads = f.good; prefix = f.prefix; unfinished = unfinished };
         last = λ _. refl;
       };
       open_ = refl;
@@ -107,7 +107,7 @@ closed-cut incoming e s m given f whole =
     let i = whole_exchange s f.coming in
     record {
       spells = spelled incoming e s m given f ∙ sym (spell_exchanges-snoc f.coming.exchanges i []);
-      exchanges = exchanges-snoc s map.empty f.coming.exchanges i f.whole (record { heads = f.good; front = f.front; whole = whole; decided = refl });
+      exchanges = exchanges-snoc s map.empty f.coming.exchanges i f.whole (record { heads = f.good; prefix = f.prefix; whole = whole; decided = refl });
       tail = empty-open;
       last = λ _. refl;
     }

@@ -125,9 +125,9 @@ open-rules s exchanges t is = ap (λ x. rules_of_exchanges exchanges ++ x) (none
     none (cut.BadResponse r head kind) = refl
     none (cut.BadBody h sent body b) = refl
 
-exchanges-front : (s : Settings) (exchanges : List Exchange) (t : Tail) → IsPrefix (written_exchanges s map.empty 0 exchanges) (output_of s (open_cut exchanges t) false)
+exchanges-prefix : (s : Settings) (exchanges : List Exchange) (t : Tail) → IsPrefix (written_exchanges s map.empty 0 exchanges) (output_of s (open_cut exchanges t) false)
 unfolding output_of
-exchanges-front s exchanges t = IsPrefix-append _ _
+exchanges-prefix s exchanges t = IsPrefix-append _ _
 
 works-same : (w w' : Writer) (s : Settings) → IsSameBut w w' → box_of w' ≡ empty_outbox → IsWriterFor w s → IsWriterFor w' s
 works-same w w' s same empty for = record {
@@ -211,7 +211,7 @@ reads-flushed e e' s m given all r few head media same state_ progress gave empt
               others = [];
               are = sym (append-nil r.exchanges);
               numbers = ap (λ (p : Progress). p.told) progress ∙ r.common.counts;
-              whole = subst (λ (t : List ℕ). IsPrefix (written_exchanges s map.empty 0 r.exchanges) t) (sym out) (exchanges-front s r.exchanges r.tail);
+              whole = subst (λ (t : List ℕ). IsPrefix (written_exchanges s map.empty 0 r.exchanges) t) (sym out) (exchanges-prefix s r.exchanges r.tail);
             };
           };
           stands = subst (λ (t : State). Stands t e' s r.exchanges r.tail) (sym state_)

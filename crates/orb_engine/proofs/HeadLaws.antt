@@ -1,4 +1,4 @@
--- What the bytes at the front of a list are: the first bytes of a head, too many for a head, or a head; and
+-- What the bytes at the beginning of a list are: the first bytes of a head, too many for a head, or a head; and
 -- that a head is read in one way.
 use Rattle.std.proofs.Common.{◌≡◌, ℕ, ◌<◌, ◌≤◌, Bool, true, false, cond, nat_lt, nat_le, List, ◌++◌, length, take, drop, bytes_eq, codes, Option, Some, None, Result, Ok, Err, inl, inr, refl, sym, ap, subst, ◌∙◌, arith}
 use Rattle.std.proofs.lemmas.Bool.{cases_Bool}
@@ -51,15 +51,15 @@ view-stands text rest h =
     ∙ rw (fits, take-append_seam text rest, drop-append_seam text rest) refl
 
 -- a head doesn't end in bytes that hold no empty line
-ends_behind : (front rest : List ℕ) (n : ℕ) → head_length front ≡ None → head_length (front ++ rest) ≡ Some n → length front < n
-ends_behind front rest n open_ ends =
-    elim (cases_Bool (nat_le n (length front))) [
+ends_after : (prefix rest : List ℕ) (n : ℕ) → head_length prefix ≡ None → head_length (prefix ++ rest) ≡ Some n → length prefix < n
+ends_after prefix rest n open_ ends =
+    elim (cases_Bool (nat_le n (length prefix))) [
       | inl within ↦
-          let less : n ≤ length front = grind (arith, nat_tests, within) in
-          let alone : head_length (take n front) ≡ Some n =
-          ap head_length (sym (take-append-le n front rest less)) ∙ head_length-alone (front ++ rest) n ends in
-          let here : head_length front ≡ Some n =
-          ap head_length (sym (take-append-drop n front)) ∙ head_length-stays (take n front) (drop n front) n alone in
+          let less : n ≤ length prefix = grind (arith, nat_tests, within) in
+          let alone : head_length (take n prefix) ≡ Some n =
+          ap head_length (sym (take-append-le n prefix rest less)) ∙ head_length-alone (prefix ++ rest) n ends in
+          let here : head_length prefix ≡ Some n =
+          ap head_length (sym (take-append-drop n prefix)) ∙ head_length-stays (take n prefix) (drop n prefix) n alone in
           absurd (none-some n (sym open_ ∙ here))
       | inr after ↦ grind (arith, nat_tests, after)
     ]
@@ -73,11 +73,11 @@ long_by l (Some n) long after =
     let more : nat_le n head_limit ≡ false = grind (arith, nat_tests, far) in
     ap (λ t. cond t (Stands (take n l) (drop n l)) Longs) more
 
-pub view-long : (front rest : List ℕ) → IsLongHead front → view (front ++ rest) ≡ Longs
+pub view-long : (prefix rest : List ℕ) → IsLongHead prefix → view (prefix ++ rest) ≡ Longs
 unfolding view
-view-long front rest h =
-    long_by (front ++ rest) (head_length (front ++ rest)) (omega (arith, length-append front rest, h.full))
-    (λ n ends. omega (arith, ends_behind front rest n h.open_ ends, h.full))
+view-long prefix rest h =
+    long_by (prefix ++ rest) (head_length (prefix ++ rest)) (omega (arith, length-append prefix rest, h.full))
+    (λ n ends. omega (arith, ends_after prefix rest n h.open_ ends, h.full))
 
 -- ---- readings
 

@@ -10,7 +10,7 @@ use Rattle.http_exchange.specs.Fields.{pairs_of}
 use Rattle.http_exchange.specs.declared.frames.BodyFrame.{BodyFrame}
 use Rattle.response_rules.specs.declared.facts.Facts.{Facts}
 use Rattle.response_rules.specs.Facts.{AreFactsOf}
-use Rattle.response_rules.specs.Reads.{head_of}
+use Rattle.response_rules.specs.Reads.{case_of}
 use Rattle.media_state.specs.declared.states.MediaState.{MediaState}
 use Rattle.orb_engine.specs.HeadReads.{ReadsWell}
 use Rattle.orb_engine.proofs.AnswerLaws.{refusal-stands, exchanges-longer}
@@ -459,10 +459,10 @@ response-bad asked e e' s m given kind h same reads =
 -- the facts are those of the response as the recording has it
 facts-judged : (asked : Asked) (d : Facts) (f : BodyFrame) (c s : Settings) (head : List ℕ) (state : MediaState) (asks : RequestHead)
     → asked.state ≡ state → asked.asks ≡ asks → c ≡ s → (well : ReadsWell asked c head d f)
-    → AreFactsOf d (head_of s.policy state asks.opaque (status_code well.tree) (pairs_of well.tree.fields) s.limit well.essence)
+    → AreFactsOf d (case_of s.policy state asks.opaque (status_code well.tree) (pairs_of well.tree.fields) s.limit well.essence)
 facts-judged asked d f c s head state asks state_is asks_is same well =
     let P : MediaState → Bool → Settings → Type 0 =
-    λ m o b. AreFactsOf d (head_of b.policy m o (status_code well.tree) (pairs_of well.tree.fields) b.limit well.essence) in
+    λ m o b. AreFactsOf d (case_of b.policy m o (status_code well.tree) (pairs_of well.tree.fields) b.limit well.essence) in
     subst (λ (b : Settings). P state asks.opaque b) same
     (subst (λ (o : Bool). P state o c) (ap (λ (q : RequestHead). q.opaque) asks_is)
     (subst (λ (m : MediaState). P m asked.asks.opaque c) state_is well.facts))

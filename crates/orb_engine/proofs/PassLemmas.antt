@@ -47,7 +47,7 @@ passed-fills incoming e e' s m piece given more p kept gave reads = record {
   spells = p.spells;
   whole = p.whole;
   good = p.good;
-  front = p.front;
+  prefix = p.prefix;
   gave = gave;
   taken = kept.taken ∙ p.taken;
   common = common-kept e e' s p.coming.exchanges given more kept p.common;
@@ -68,4 +68,4 @@ pub passed-breaks : (incoming : Incoming) (e e' : Engine) (s : Settings) (m piec
 passed-breaks incoming e e' s m piece given more p kept within =
     let c = p.coming in
     breaks-body e' s m given more c.exchanges _ (rw kept.told p.common.told) within
-    (seen-body s m c.exchanges c.heads c.sent (c.body ++ piece) incoming.unframer p.spells p.whole p.good p.front p.unframer)
+    (seen-body s m c.exchanges c.heads c.sent (c.body ++ piece) incoming.unframer p.spells p.whole p.good p.prefix p.unframer)

@@ -62,9 +62,9 @@ pub record Grows (s : Settings) (table : States) (exchanges : List Exchange) (t 
       (written_exchanges s table before exchanges ++ written_tail s (table_after_all table exchanges) number false t)
       (written_exchanges s table before jtems ++ written_tail s (table_after_all table jtems) count false u)
 
-grows_behind : (s : Settings) (table : States) (i : Exchange) (exchanges : List Exchange) (t : Tail) (jtems : List Exchange) (u : Tail)
+grows_after : (s : Settings) (table : States) (i : Exchange) (exchanges : List Exchange) (t : Tail) (jtems : List Exchange) (u : Tail)
     → Grows s (table_after table i) exchanges t jtems u → Grows s table (i ∷ exchanges) t (i ∷ jtems) u
-grows_behind s table i exchanges t jtems u g = record {
+grows_after s table i exchanges t jtems u g = record {
   others = g.others;
   goes_on = ap (λ k. i ∷ k) g.goes_on;
   grows = λ before number count.
@@ -115,4 +115,4 @@ grow_cut s table l x (i ∷ exchanges) t more (j ∷ jtems) u others a b =
       last = b.last;
     } in
     subst (λ k. Grows s table (i ∷ exchanges) t (k ∷ jtems) u) same.0
-    (grows_behind s table i exchanges t jtems u (grow_cut s (table_after table i) r x exchanges t more jtems u others first second))
+    (grows_after s table i exchanges t jtems u (grow_cut s (table_after table i) r x exchanges t more jtems u others first second))

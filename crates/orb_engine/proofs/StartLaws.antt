@@ -1,4 +1,4 @@
--- What the heads of an exchange at the front of some bytes are, which is one thing alone.
+-- What the heads of an exchange at the beginning of some bytes are, which is one thing alone.
 use Rattle.std.proofs.Common.{◌≡◌, ℕ, Bool, true, List, [], ◌∷◌, ◌++◌, Ok, Err, refl, sym, ap, subst, ◌∙◌}
 use Rattle.std.proofs.lemmas.List.{append-nil}
 use Rattle.media_state.specs.Table.{States}
@@ -12,7 +12,7 @@ use Rattle.orb_engine.specs.Recording as cut
 use Rattle.orb_engine.specs.Recording.{Tail, IsTail, spell_heads, spell_tail, is_open}
 use Rattle.orb_engine.proofs.HeadLaws.{Opens, Longs, Stands, view, view-open, view-stands, view-long, ask_once, bad_request_once, ask_or_bad, response_once, bad_response_once, response_or_bad}
 
--- a request at the front of some bytes
+-- a request at the beginning of some bytes
 pub data Ask : Type 0 where
   AskOpens : Ask
   AskLong : Ask
@@ -20,7 +20,7 @@ pub data Ask : Type 0 where
   AskFull : RequestText → Ask
   Asked : RequestText → (rest : List ℕ) → Ask
 
--- a response at the front of some bytes
+-- a response at the beginning of some bytes
 pub data Answer : Type 0 where
   NoAnswer : Answer
   AnswerOpens : Answer
@@ -125,12 +125,12 @@ one_answer to_head l (Answered r rest) (Answered q others) x y =
     let response : r ≡ q = response_once to_head r q same x.1 y.1 in cc
 
 -- after one request
-one_behind : (ask : Ask) (a b : Answer) → OnlyFills ask a → OnlyFills ask b → a ≡ b
-one_behind AskOpens a b x y = x ∙ sym y
-one_behind AskLong a b x y = x ∙ sym y
-one_behind (AskBad head kind) a b x y = x ∙ sym y
-one_behind (AskFull r) a b x y = x ∙ sym y
-one_behind (Asked r rest) a b x y = one_answer r.asks.is_head rest a b x y
+one_after : (ask : Ask) (a b : Answer) → OnlyFills ask a → OnlyFills ask b → a ≡ b
+one_after AskOpens a b x y = x ∙ sym y
+one_after AskLong a b x y = x ∙ sym y
+one_after (AskBad head kind) a b x y = x ∙ sym y
+one_after (AskFull r) a b x y = x ∙ sym y
+one_after (Asked r rest) a b x y = one_answer r.asks.is_head rest a b x y
 
 -- ---- both
 
@@ -142,7 +142,7 @@ pub one_start : (table : States) (l : List ℕ) (a b : Ask) (x y : Answer) → I
     → (a ≡ b) × (x ≡ y)
 one_start table l a b x y p q =
     let asks : a ≡ b = one_ask table l a b p.asks q.asks in
-    (asks, one_behind a x y p.answers (subst (λ k. OnlyFills k y) (sym asks) q.answers))
+    (asks, one_after a x y p.answers (subst (λ k. OnlyFills k y) (sym asks) q.answers))
 
 -- ---- of a tail
 

@@ -7,7 +7,7 @@ use Rattle.orb_io.specs.Told.{IsPrefix}
 use Rattle.orb_io.proofs.ToldLemmas.{IsPrefix-all, IsPrefix-trans, IsPrefix-after, IsPrefix-append}
 use Rattle.http_exchange.specs.Marks.{Mark, Frame, Content, bytes_of, content_of}
 use Rattle.http_exchange.specs.Places.{is_end}
-use Rattle.http_exchange.specs.Frames.{IsFront, IsWhole}
+use Rattle.http_exchange.specs.Frames.{IsBodyPrefix, IsWhole}
 use Rattle.http_exchange.specs.Reads.{StandsAt}
 use Rattle.http_exchange.specs.Reads.{HasRead as UnframerHasRead}
 use Rattle.http_exchange.specs.declared.frames.BodyFrame.{BodyFrame}
@@ -34,11 +34,11 @@ content-short [] = omega arith
 content-short (Frame b ∷ k) = let rest = content-short k in omega arith
 content-short (Content b ∷ k) = let rest = content-short k in omega arith
 
-pub front-short : (f : BodyFrame) (m g : List ℕ) → IsFront f m g → length g ≤ length m
-front-short frame.Empty m g h = omega (arith, ap length h.1)
-front-short (frame.Length n) m g h = omega (arith, ap length h.1)
-front-short frame.Chunked m g h = rw (← h.reads, ← h.gives) (content-short h.front)
-front-short frame.ToEnd m g h = omega (arith, ap length h)
+pub prefix-short : (f : BodyFrame) (m g : List ℕ) → IsBodyPrefix f m g → length g ≤ length m
+prefix-short frame.Empty m g h = omega (arith, ap length h.1)
+prefix-short (frame.Length n) m g h = omega (arith, ap length h.1)
+prefix-short frame.Chunked m g h = rw (← h.reads, ← h.gives) (content-short h.prefix)
+prefix-short frame.ToEnd m g h = omega (arith, ap length h)
 
 -- whether a body is whole is known where an unframer has read it
 pub whole-or-not : (u : Reading) (f : BodyFrame) (m g : List ℕ) → StandsAt u f m g → IsWhole f m ⊎ (IsWhole f m → ⊥)
@@ -70,9 +70,9 @@ pub record IsSeen (s : Settings) (m : List ℕ) (exchanges : List Exchange) (wro
 
 pub seen-body : (s : Settings) (m : List ℕ) (exchanges : List Exchange) (h : Heads) (sent body : List ℕ) (u : Unframer)
     → m ≡ spell_exchanges exchanges (spell_heads h sent) → AreExchanges s map.empty exchanges → AreHeads (table_of exchanges) h
-    → IsFront h.response.frame sent body → UnframerHasRead u h.response.frame sent body
+    → IsBodyPrefix h.response.frame sent body → UnframerHasRead u h.response.frame sent body
     → IsSeen s m exchanges (written_exchanges s map.empty 0 exchanges ++ written_so_far s.job (response_of s (table_of exchanges) h) body)
-seen-body s m exchanges h sent body u spells whole good front reads =
+seen-body s m exchanges h sent body u spells whole good prefix reads =
     elim (whole-or-not u h.response.frame sent body reads.stands) [ inl ended ↦ closed ended | inr unfinished ↦ coming unfinished ]
   where
     Seen : Type 0
@@ -89,7 +89,7 @@ seen-body s m exchanges h sent body u spells whole good front reads =
           recording = open_cut (exchanges ++ (i ∷ [])) (cut.InRequestHead []);
           cut = record {
             spells = spelled ∙ sym (spell_exchanges-snoc exchanges i []);
-            exchanges = exchanges-snoc s map.empty exchanges i whole (record { heads = good; front = front; whole = ended; decided = refl });
+            exchanges = exchanges-snoc s map.empty exchanges i whole (record { heads = good; prefix = prefix; whole = ended; decided = refl });
             tail = empty-open;
             last = λ _. refl;
           };
@@ -106,7 +106,7 @@ seen-body s m exchanges h sent body u spells whole good front reads =
       cut = record {
         spells = spelled;
         exchanges = whole;
-        tail = record { heads = good; front = front; unfinished = unfinished };
+        tail = record { heads = good; prefix = prefix; unfinished = unfinished };
         last = λ _. refl;
       };
       within = subst (λ (t : List ℕ). IsPrefix t (output_of s (open_cut exchanges (cut.InBody h sent body)) false))

@@ -2,8 +2,8 @@
 use Rattle.std.proofs.Common.{◌≡◌, ℕ, ◌+◌, Bool, true, List, [], ◌∷◌, ◌++◌, length, refl, sym, ap, subst, ◌∙◌, arith}
 use Rattle.std.proofs.lemmas.List.{append-nil, append_cancel_left, length-append}
 use Rattle.media_state.specs.Table.{States}
-use Rattle.http_exchange.specs.Frames.{IsFront, IsWhole}
-use Rattle.http_exchange.proofs.UnframerLemmas.{one_front, last_byte}
+use Rattle.http_exchange.specs.Frames.{IsBodyPrefix, IsWhole}
+use Rattle.http_exchange.proofs.UnframerLemmas.{one_prefix, last_byte}
 use Rattle.orb_engine.specs.declared.settings.Settings.{Settings}
 use Rattle.orb_engine.specs.Heads.{Heads}
 use Rattle.orb_engine.specs.Recording as cut
@@ -34,11 +34,11 @@ pub whole_not_sending : (table : States) (h : Heads) (m r n c : List ℕ)
     → IsWhole h.response.frame m → IsOpenBody table h n c → m ++ r ≡ n → ⊥
 whole_not_sending table h m r n c whole y e =
     let f = h.response.frame in
-    let none : r ≡ [] = last_byte f m r c whole (subst (λ l. IsFront f l c) (sym e) y.front) in
+    let none : r ≡ [] = last_byte f m r c whole (subst (λ l. IsBodyPrefix f l c) (sym e) y.prefix) in
     y.unfinished (subst (IsWhole f) (sym (append-nil m) ∙ ap (λ l. m ++ l) (sym none) ∙ e) whole)
 
 pub whole_not_bad : (table : States) (h : Heads) (m r n q g c : List ℕ) (b : ℕ)
-    → IsWhole h.response.frame m → IsFront h.response.frame m g → IsBadBody table h n c b
+    → IsWhole h.response.frame m → IsBodyPrefix h.response.frame m g → IsBadBody table h n c b
     → m ++ r ≡ n ++ (b ∷ q) → ⊥
 whole_not_bad table h m r n q g c b whole x y e =
     let k = within_stuck h.response.frame m r n q g b y.bad x e in
@@ -47,7 +47,7 @@ whole_not_bad table h m r n q g c b whole x y e =
 sending_not_bad : (table : States) (h : Heads) (m n q g c : List ℕ) (b : ℕ)
     → IsOpenBody table h m g → IsBadBody table h n c b → m ≡ n ++ (b ∷ q) → ⊥
 sending_not_bad table h m n q g c b x y e =
-    let k = within_stuck h.response.frame m [] n q g b y.bad x.front (append-nil m ∙ e) in
+    let k = within_stuck h.response.frame m [] n q g b y.bad x.prefix (append-nil m ∙ e) in
     let long : length m ≡ length n + length (b ∷ q) = ap length e ∙ length-append n (b ∷ q) in
     let short : length n ≡ length m + length k.0 = ap length k.1 ∙ length-append m k.0 in
     absurd (omega (arith, long, short))
@@ -56,20 +56,20 @@ same_sending : (table : States) (h : Heads) (m n g c : List ℕ) → IsOpenBody 
     → m ≡ n → cut.InBody h m g ≡ cut.InBody h n c
 same_sending table h m n g c x y same =
     let contents : g ≡ c =
-    one_front h.response.frame m g c x.front (subst (λ l. IsFront h.response.frame l c) (sym same) y.front) in cc
+    one_prefix h.response.frame m g c x.prefix (subst (λ l. IsBodyPrefix h.response.frame l c) (sym same) y.prefix) in cc
 
 same_bad : (table : States) (h : Heads) (m r n q g c : List ℕ) (b d : ℕ) → IsBadBody table h m g b
     → IsBadBody table h n c d → m ++ (b ∷ r) ≡ n ++ (d ∷ q) → cut.BadBody h m g b ≡ cut.BadBody h n c d
 same_bad table h m r n q g c b d x y e =
     let f = h.response.frame in
-    let k = within_stuck f m (b ∷ r) n q g d y.bad x.sending.front e in
-    let l = within_stuck f n (d ∷ q) m r c b x.bad y.sending.front (sym e) in
+    let k = within_stuck f m (b ∷ r) n q g d y.bad x.sending.prefix e in
+    let l = within_stuck f n (d ∷ q) m r c b x.bad y.sending.prefix (sym e) in
     let up : length n ≡ length m + length k.0 = ap length k.1 ∙ length-append m k.0 in
     let down : length m ≡ length n + length l.0 = ap length l.1 ∙ length-append n l.0 in
     let none : length k.0 ≡ 0 = omega (arith, up, down) in
     let same : m ≡ n = sym (k.1 ∙ ap (λ z. m ++ z) (is_nil k.0 none) ∙ append-nil m) in
     let contents : g ≡ c =
-    one_front f m g c x.sending.front (subst (λ z. IsFront f z c) (sym same) y.sending.front) in
+    one_prefix f m g c x.sending.prefix (subst (λ z. IsBodyPrefix f z c) (sym same) y.sending.prefix) in
     let rests : b ∷ r ≡ d ∷ q = append_cancel_left m (b ∷ r) (d ∷ q) (e ∙ ap (λ z. z ++ (d ∷ q)) (sym same)) in
     let bytes : b ≡ d = cc in
     cc

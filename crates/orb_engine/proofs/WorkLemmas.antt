@@ -36,7 +36,7 @@ unfolding written_whole
 whole-filter j n x m is = rw is refl
 
 pub whole-explain : (j : Job) (n : ℕ) (x : Response) (m : List ℕ) → j ≡ job.Explain
-    → written_whole j n x m ≡ line_by n x (length m) (rule_of x.head m)
+    → written_whole j n x m ≡ line_by n x (length m) (rule_of x.judged m)
 unfolding written_whole
 whole-explain j n x m is = rw is refl
 
@@ -55,16 +55,16 @@ pub for-explain : (w : Worker) (d : Decider) (s : Settings) → w ≡ worker.Exp
 for-explain w d s is h = subst (λ (v : Worker). IsWorkerFor v s) is h
 
 pub reads-explain : (w : Worker) (d : Decider) (x : Response) (m : List ℕ) → w ≡ worker.Explains d
-    → WorkerReads w x m → DeciderHasRead d x.head m
+    → WorkerReads w x m → DeciderHasRead d x.judged m
 reads-explain w d x m is h = subst (λ (v : Worker). WorkerReads v x m) is h
 
 -- the line that is owed
-pub line-owed : (number : ℕ) (x : Response) (m : List ℕ) (v : Verdict) → IsVerdict x.head m v
-    → line_by number x (length m) (rule_of x.head m) ≡ line_of number v.rule v.state (length m)
+pub line-owed : (number : ℕ) (x : Response) (m : List ℕ) (v : Verdict) → IsVerdict x.judged m v
+    → line_by number x (length m) (rule_of x.judged m) ≡ line_of number v.rule v.state (length m)
 line-owed number x m v is = rw (is.state, is.rule) refl
 
 pub line-written : (number size : ℕ) (s : Settings) (x : Response) (m : List ℕ) (v : Verdict) (line : List ℕ)
-    → s.job ≡ job.Explain → IsVerdict x.head m v → size ≡ length m → line ≡ line_of number v.rule v.state size
+    → s.job ≡ job.Explain → IsVerdict x.judged m v → size ≡ length m → line ≡ line_of number v.rule v.state size
     → line ≡ written_whole s.job number x m
 line-written number size s x m v line is verdict sized line_is =
     line_is ∙ ap (line_of number v.rule v.state) sized
@@ -111,4 +111,4 @@ whole-most s number x m number_fits size_fits = by s.job refl
     by : (i : Job) → s.job ≡ i → length (written_whole s.job number x m) ≤ length x.bytes + 2 * length m + 128
     by job.Filter is = omega (arith, ap length (whole-filter s.job number x m is), output-length x m)
     by job.Explain is =
-        omega (arith, ap length (whole-explain s.job number x m is), line-short number (length m) (rule_of x.head m) (state_after_rule x.head.state (rule_of x.head m)) number_fits size_fits)
+        omega (arith, ap length (whole-explain s.job number x m is), line-short number (length m) (rule_of x.judged m) (state_after_rule x.judged.state (rule_of x.judged m)) number_fits size_fits)

@@ -2,7 +2,7 @@
 use Rattle.std.specs.Prelude.{◌≡◌, ℕ, List, Option, Result, Ok, Err}
 use Rattle.response_rules.specs.declared.facts.Facts.{Facts}
 use Rattle.response_rules.specs.Facts.{AreFactsOf}
-use Rattle.response_rules.specs.Reads.{head_of}
+use Rattle.response_rules.specs.Reads.{case_of}
 use Rattle.http_exchange.specs.Reading.{ReadsResponseHead}
 use Rattle.http_exchange.specs.Heads.{IsResponse}
 use Rattle.http_exchange.specs.Fields.{pairs_of}
@@ -22,7 +22,7 @@ pub record ReadsWell (asked : Asked) (s : Settings) (head : List ℕ) (read : Fa
   pub essence : Option (List ℕ × List ℕ)
   pub states : HasEssence (pairs_of tree.fields) essence
   pub facts : AreFactsOf read
-      (head_of s.policy asked.state asked.asks.opaque (status_code tree) (pairs_of tree.fields) s.limit essence)
+      (case_of s.policy asked.state asked.asks.opaque (status_code tree) (pairs_of tree.fields) s.limit essence)
 
 abbrev pub ReadsResponse : Asked → Settings → List ℕ → Result (Facts × BodyFrame) BadKind → Type 0
 ReadsResponse asked s head (Ok read) = ReadsWell asked s head read.0 read.1

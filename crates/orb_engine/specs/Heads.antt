@@ -4,8 +4,8 @@ use Rattle.httparse.specs.Grammar.{status_code, ResponseHead}
 use Rattle.media_state.specs.Table.{States, kept_state, IsRefusedId}
 use Rattle.media_state.specs.declared.states.MediaState.{MediaState}
 use Rattle.media_state.specs.declared.states.MediaState.TheVariants.{Na}
-use Rattle.response_rules.specs.Heads.{Head, HasEssence}
-use Rattle.response_rules.specs.Reads.{head_of}
+use Rattle.response_rules.specs.Heads.{Case, HasEssence}
+use Rattle.response_rules.specs.Reads.{case_of}
 use Rattle.body_filter.specs.Responses as filter
 use Rattle.body_filter.specs.Responses.{Response}
 use Rattle.http_exchange.specs.Heads.{IsResponse}
@@ -74,9 +74,9 @@ abbrev pub state_of : States → Heads → MediaState
 state_of table h = state_before table h.request.asks
 
 -- what the response is judged by
-abbrev pub judged_by : Settings → States → Heads → Head
+abbrev pub judged_by : Settings → States → Heads → Case
 judged_by s table h =
-    head_of s.policy (state_of table h) h.request.asks.opaque h.response.status h.response.fields s.limit
+    case_of s.policy (state_of table h) h.request.asks.opaque h.response.status h.response.fields s.limit
     h.response.essence
 
 abbrev pub is_chunked : BodyFrame → Bool

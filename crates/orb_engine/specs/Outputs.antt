@@ -31,7 +31,7 @@ line_of number rule state length_ =
 
 -- the line of a response that the rule decides
 abbrev pub line_by : (number : ℕ) → Response → (length_ : ℕ) → Rule → List ℕ
-line_by number x length_ rule = line_of number rule (state_after_rule x.head.state rule) length_
+line_by number x length_ rule = line_of number rule (state_after_rule x.judged.state rule) length_
 
 -- what is written when these bytes of a body have come
 unfoldable pub written_so_far : Job → Response → List ℕ → List ℕ
@@ -41,7 +41,7 @@ written_so_far Explain x body = []
 -- what is written of a whole exchange with that body and that number
 unfoldable pub written_whole : Job → (number : ℕ) → Response → List ℕ → List ℕ
 written_whole Filter number x body = whole_output x body
-written_whole Explain number x body = line_by number x (length body) (rule_of x.head body)
+written_whole Explain number x body = line_by number x (length body) (rule_of x.judged body)
 
 -- what is written of whole exchanges, of which so many stand before
 abbrev pub written_exchanges : Settings → States → (before : ℕ) → List Exchange → List ℕ

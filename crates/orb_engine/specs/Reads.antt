@@ -4,7 +4,7 @@ use Rattle.std.specs.FinMap as map
 use Rattle.orb_io.specs.Told.{IsPrefix, Rose}
 use Rattle.response_rules.specs.declared.rules.Rule.{Rule}
 use Rattle.media_state.specs.Table.{States}
-use Rattle.http_exchange.specs.Frames.{IsFront}
+use Rattle.http_exchange.specs.Frames.{IsBodyPrefix}
 use Rattle.http_exchange.specs.Reads.{IsTaken}
 use Rattle.http_exchange.specs.Reads.{HasRead as UnframerHasRead, Answers as UnframerAnswers}
 use Rattle.http_exchange.specs.declared.pieces.Taken.{Taken}
@@ -139,7 +139,7 @@ pub record Fills (incoming : Incoming) (e : Engine) (s : Settings) (m given : Li
   pub spells : m ≡ spell_coming coming
   pub whole : AreExchanges s map.empty coming.exchanges
   pub good : AreHeads (table_of coming.exchanges) coming.heads
-  pub front : IsFront coming.heads.response.frame coming.sent coming.body
+  pub prefix : IsBodyPrefix coming.heads.response.frame coming.sent coming.body
   pub gave : given ++ gathered_by e.writer ≡ coming_written s coming
   pub taken : e.progress.taken ≡ length m
   pub common : Common e s coming.exchanges given
@@ -273,7 +273,7 @@ pub record Passes (incoming : Incoming) (e : Engine) (s : Settings) (m piece giv
   pub spells : m ≡ spell_coming coming
   pub whole : AreExchanges s map.empty coming.exchanges
   pub good : AreHeads (table_of coming.exchanges) coming.heads
-  pub front : IsFront coming.heads.response.frame coming.sent (coming.body ++ piece)
+  pub prefix : IsBodyPrefix coming.heads.response.frame coming.sent (coming.body ++ piece)
   pub gave : given ++ gathered_by e.writer ≡ coming_written s coming
   pub taken : e.progress.taken ≡ length m
   pub common : Common e s coming.exchanges given

@@ -7,7 +7,7 @@ use Rattle.media_state.specs.declared.states.MediaState.{MediaState}
 use Rattle.response_rules.specs.declared.rules.Rule.{Rule}
 use Rattle.response_rules.specs.Rules.{state_after_rule}
 use Rattle.response_rules.specs.Tables.{rule_of}
-use Rattle.http_exchange.specs.Frames.{IsFront, IsWhole}
+use Rattle.http_exchange.specs.Frames.{IsBodyPrefix, IsWhole}
 use Rattle.http_exchange.specs.Reading.{ReadsRequestHead, ReadsResponseHead}
 use Rattle.http_exchange.specs.declared.refusals.BadKind.{BadKind}
 use Rattle.http_exchange.specs.declared.frames.BodyFrame.TheVariants as frame
@@ -82,7 +82,7 @@ table_after_all table (i ∷ exchanges) = table_after_all (table_after table i) 
 -- both heads are good, the body is whole, and this rule decides it
 pub record IsExchange (s : Settings) (table : States) (i : Exchange) : Type 0 where
   pub heads : AreHeads table i.heads
-  pub front : IsFront i.heads.response.frame i.sent i.body
+  pub prefix : IsBodyPrefix i.heads.response.frame i.sent i.body
   pub whole : IsWhole i.heads.response.frame i.sent
   pub decided : i.rule ≡ rule_of (judged_by s table i.heads) i.body
 
@@ -93,14 +93,14 @@ AreExchanges s table (i ∷ exchanges) = IsExchange s table i × AreExchanges s 
 -- a body that isn't whole, of which these bytes were sent
 pub record IsOpenBody (table : States) (h : Heads) (sent body : List ℕ) : Type 0 where
   pub heads : AreHeads table h
-  pub front : IsFront h.response.frame sent body
+  pub prefix : IsBodyPrefix h.response.frame sent body
   pub unfinished : IsWhole h.response.frame sent → ⊥
 
 -- the byte can't stand after those that were sent
 pub record IsBadBody (table : States) (h : Heads) (sent body : List ℕ) (b : ℕ) : Type 0 where
   pub sending : IsOpenBody table h sent body
   pub chunked : h.response.frame ≡ frame.Chunked
-  pub bad : (g : List ℕ) → IsFront h.response.frame (sent ++ (b ∷ [])) g → ⊥
+  pub bad : (g : List ℕ) → IsBodyPrefix h.response.frame (sent ++ (b ∷ [])) g → ⊥
 
 -- what stands there is so, after exchanges that leave these media states; of the refusals the first that holds
 abbrev pub IsTail : States → Tail → Type 0

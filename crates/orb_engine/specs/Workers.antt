@@ -2,7 +2,7 @@
 use Rattle.std.specs.Prelude.{◌≡◌, ℕ, List}
 use Rattle.response_rules.specs.declared.facts.Facts.{Facts}
 use Rattle.response_rules.specs.Facts.{AreFactsOf}
-use Rattle.response_rules.specs.Heads.{Head}
+use Rattle.response_rules.specs.Heads.{Case}
 use Rattle.response_rules.specs.Reads.{HasRead as DeciderHasRead}
 use Rattle.body_filter.specs.Responses.{Response}
 use Rattle.body_filter.specs.Reads.{HasRead as FilterHasRead, limit_of}
@@ -19,7 +19,7 @@ IsWorkerFor (worker.Explains d) s = s.job ≡ job.Explain
 -- it has read this prefix of the body of the response
 abbrev pub WorkerReads : Worker → Response → List ℕ → Type 0
 WorkerReads (worker.Filters f) x m = FilterHasRead f x m
-WorkerReads (worker.Explains d) x m = DeciderHasRead d x.head m
+WorkerReads (worker.Explains d) x m = DeciderHasRead d x.judged m
 
 -- the worker of these settings has read it
 pub record Works (w : Worker) (s : Settings) (x : Response) (m : List ℕ) : Type 0 where
@@ -27,6 +27,6 @@ pub record Works (w : Worker) (s : Settings) (x : Response) (m : List ℕ) : Typ
   pub reads : WorkerReads w x m
 
 -- the facts of a response that is read for a script as far as the settings say
-pub record AreFactsFor (facts : Facts) (s : Settings) (h : Head) : Type 0 where
+pub record AreFactsFor (facts : Facts) (s : Settings) (h : Case) : Type 0 where
   pub of_head : AreFactsOf facts h
   pub limit : h.limit ≡ s.limit

@@ -64,7 +64,7 @@ pub fn output_grows()
 ///
 /// After it stands that first bytes of such a recording are open until they are all of it.
 pub fn completeness()
-    ensures fronts { (s : Settings) (read rest : List ℕ) (r first : Recording) (ended : Bool)
+    ensures prefixes { (s : Settings) (read rest : List ℕ) (r first : Recording) (ended : Bool)
         → IsWholeRecording s (read ++ rest) r → IsRecording s read first
         → (ended ≡ true → rest ≡ []) → stop_of first ended ≢ Open
         → IsAll s r first ended rest }

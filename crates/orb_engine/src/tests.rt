@@ -28,7 +28,7 @@ const HTML: &[u8] =
 const OGG: &[u8] =
     b"HTTP/1.1 206 Partial Content\r\nContent-Range: bytes 0-4/9\r\nContent-Length: 5\r\n\r\nOggS\0";
 
-const BEHIND: &[u8] =
+const LATER: &[u8] =
     b"HTTP/1.1 206 Partial Content\r\nContent-Range: bytes 5-8/9\r\nContent-Length: 4\r\n\r\nabcd";
 
 const REPLY: &[u8] =
@@ -97,7 +97,7 @@ fn exchanges_are_filtered_and_explained_in_every_cutting(rt: HostRuntime) -> Res
     let alloc = rt.alloc();
     let two: [&[u8]; 5] = [REQUEST, PNG, REQUEST, HTML, b"x"];
     let cut: [&[u8]; 4] = [REQUEST, PNG, REQUEST, HTML];
-    let media: [&[u8]; 4] = [AUDIO, OGG, AUDIO, BEHIND];
+    let media: [&[u8]; 4] = [AUDIO, OGG, AUDIO, LATER];
     let lines = b"1 allow image na 8\n2 block nosniff-blocklisted na 4\n";
     // the parts of a recording, what is done, the end, how many were allowed and blocked, and what is written
     let rows: [(&[&[u8]], Job, EngineOutcome, (u64, u64), &[&[u8]]); 4] = [

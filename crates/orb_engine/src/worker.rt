@@ -2,7 +2,7 @@
 ghost use Rattle.std.specs.Prelude.{◌≡◌, ◌≤◌, ◌++◌, ℕ, List, [], ◌∷◌, length};
 ghost use Rattle.orb_io.specs.Told.{Delivers};
 ghost use Rattle.orb_io.specs.Calls.{Calls};
-ghost use Rattle.response_rules.specs.Heads.{Head};
+ghost use Rattle.response_rules.specs.Heads.{Case};
 ghost use Rattle.response_rules.specs.Reads.{HasRead as DeciderHasRead, IsVerdict};
 ghost use Rattle.body_filter.specs.Responses.{Response, response_of};
 
@@ -52,8 +52,8 @@ impl Worker {
         sink: &mut O,
     ) -> Result<(), WriteFault>
         requires short { length head.now ≤ 65536 }
-        requires made { (s : Settings) × (h : Head) × IsWorkerFor self.old s × AreFactsFor facts s h }
-        ensures delivers { (s : Settings) (h : Head) → IsWorkerFor self.old s → AreFactsFor facts s h
+        requires made { (s : Settings) × (h : Case) × IsWorkerFor self.old s × AreFactsFor facts s h }
+        ensures delivers { (s : Settings) (h : Case) → IsWorkerFor self.old s → AreFactsFor facts s h
             → Delivers result (O.told sink.old) (O.told sink.new)
             [] (written_so_far s.job (response_of h head.now chunked) [])
             (λ _. Works self.new s (response_of h head.now chunked) []) }
@@ -98,7 +98,7 @@ impl Worker {
         requires { (s : Settings) × (x : Response) × (m : List ℕ) × Works self.old s x m }
         ensures delivers { (s : Settings) (x : Response) (m : List ℕ) → Works self.old s x m → size ≡ length m
             → Delivers result (O.told sink.old) (O.told sink.new)
-            (written_so_far s.job x m) (written_whole s.job number x m) (λ v. IsVerdict x.head m v) }
+            (written_so_far s.job x m) (written_whole s.job number x m) (λ v. IsVerdict x.judged m v) }
         ensures calls { Calls O.Sink result sink.old sink.new }
         ensures worker { (s : Settings) → IsWorkerFor self.old s → IsWorkerFor self.new s }
     {

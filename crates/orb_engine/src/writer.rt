@@ -8,7 +8,7 @@ ghost use Rattle.orb_io.specs.Told.{Gives, Delivers};
 ghost use Rattle.orb_io.specs.Calls.{Calls};
 ghost use Rattle.orb_engine.specs.Workers.{IsWorkerFor};
 ghost use Rattle.orb_engine.specs.WorkerLaws.{IsWorkerFor-prop};
-ghost use Rattle.response_rules.specs.Heads.{Head};
+ghost use Rattle.response_rules.specs.Heads.{Case};
 ghost use Rattle.response_rules.specs.Reads.{IsVerdict};
 ghost use Rattle.body_filter.specs.Responses.{Response, response_of};
 
@@ -91,8 +91,8 @@ impl Writer {
         output: &mut O,
     ) -> Result<(), WriteFault>
         requires short { length head.now ≤ 65536 }
-        requires made { (s : Settings) × (h : Head) × IsWriterFor self.old s × AreFactsFor facts s h }
-        ensures passes { (s : Settings) (h : Head) (given : List ℕ) → IsWriterFor self.old s → AreFactsFor facts s h
+        requires made { (s : Settings) × (h : Case) × IsWriterFor self.old s × AreFactsFor facts s h }
+        ensures passes { (s : Settings) (h : Case) (given : List ℕ) → IsWriterFor self.old s → AreFactsFor facts s h
             → Gives (O.told output.old) (O.told output.new) given (Passes result self.new
             ((given ++ gathered_by self.old) ++ written_so_far s.job (response_of h head.now chunked) [])
             (λ _. WriterReads self.new s (response_of h head.now chunked) [])) }
@@ -149,7 +149,7 @@ impl Writer {
         ensures passes { (s : Settings) (x : Response) (m given before : List ℕ) → WriterReads self.old s x m
             → given ++ gathered_by self.old ≡ before ++ written_so_far s.job x m
             → Gives (O.told output.old) (O.told output.new) given (Passes result self.new
-            (before ++ written_whole s.job number x m) (λ v. IsVerdict x.head m v × IsWriterFor self.new s)) }
+            (before ++ written_whole s.job number x m) (λ v. IsVerdict x.judged m v × IsWriterFor self.new s)) }
         ensures calls { Calls O.Sink result output.old output.new }
         ensures settings { self.new.settings ≡ self.old.settings }
     {

@@ -4,7 +4,7 @@ ghost use Rattle.orb_io.specs.Memory.{given_count};
 
 use std::marker::Model;
 
-/// Bytes that are given from the front, at most `piece` at a time.
+/// Bytes that are given from the first on, at most `piece` at a time.
 #[derive(Drop)]
 pub(crate) struct Supply {
     bytes: Vec<u8>,
@@ -35,7 +35,7 @@ impl Supply {
         }
     }
 
-    /// Gives the next bytes into the front of `buf`, and answers how many.
+    /// Gives the next bytes into the first places of `buf`, and answers how many.
     pub(crate) fn give(&mut self, buf: &mut [u8]) -> usize
         ensures count { result ≡ given_count self.old.rest self.old.piece (length buf.new) }
         ensures given { self.old.rest ≡ take result buf.new ++ self.new.rest }

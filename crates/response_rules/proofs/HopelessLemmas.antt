@@ -8,7 +8,7 @@ use Rattle.es5_machine.proofs.ScriptTestLemmas.{lost}
 use Rattle.response_rules.specs.declared.rules.Rule.{Rule}
 use Rattle.response_rules.specs.declared.deciding.Decider.{Decider}
 use Rattle.response_rules.specs.Rules.{is_allowing}
-use Rattle.response_rules.specs.Heads.{Head}
+use Rattle.response_rules.specs.Heads.{Case}
 use Rattle.response_rules.specs.Texts.{is_script}
 use Rattle.response_rules.specs.Tables.{window_size, early_rule, rule_of}
 use Rattle.response_rules.specs.Settled.{is_full, is_some_rule, is_sent, is_blocked, is_in_text, is_hopeless, rule_in_window, head_rule_of}
@@ -35,41 +35,41 @@ is_none_of None is = refl
 is_none_of (Some r) is = absurd (cc is)
 
 -- text is text by a full window that doesn't decide
-pub text_full : (h : Head) (m : List ℕ) → is_in_text h m ≡ true → is_full m ≡ true
+pub text_full : (h : Case) (m : List ℕ) → is_in_text h m ≡ true → is_full m ≡ true
 unfolding is_in_text
 text_full h m is = and_left (is_full m) (is_none (early_rule h m)) is
 
-pub text_undecided : (h : Head) (m : List ℕ) → is_in_text h m ≡ true → early_rule h m ≡ None
+pub text_undecided : (h : Case) (m : List ℕ) → is_in_text h m ≡ true → early_rule h m ≡ None
 unfolding is_in_text
 text_undecided h m is = is_none_of (early_rule h m) (and_right (is_full m) (is_none (early_rule h m)) is)
 
-pub is_text : (h : Head) (m : List ℕ) → is_full m ≡ true → early_rule h m ≡ None → is_in_text h m ≡ true
+pub is_text : (h : Case) (m : List ℕ) → is_full m ≡ true → early_rule h m ≡ None → is_in_text h m ≡ true
 unfolding is_in_text
 is_text h m full none = and_both (is_full m) (is_none (early_rule h m)) full (ap is_none none)
 
 -- a full window decides for good
-pub early-longer : (h : Head) (m more : List ℕ) → is_full m ≡ true → early_rule h (m ++ more) ≡ early_rule h m
+pub early-longer : (h : Case) (m more : List ℕ) → is_full m ≡ true → early_rule h (m ++ more) ≡ early_rule h m
 early-longer h m more full =
     early-halves h (m ++ more)
     ∙ ap (λ w. option_or (head_rule_of h) (rule_in_window h w)) (window_longer m more full)
     ∙ sym (early-halves h m)
 
-pub text-longer : (h : Head) (m more : List ℕ) → is_in_text h m ≡ true → is_in_text h (m ++ more) ≡ true
+pub text-longer : (h : Case) (m more : List ℕ) → is_in_text h m ≡ true → is_in_text h (m ++ more) ≡ true
 text-longer h m more is =
     let full = text_full h m is in
     is_text h (m ++ more) (full_longer m more full) (early-longer h m more full ∙ text_undecided h m is)
 
-pub text-unsent : (h : Head) (m : List ℕ) → is_in_text h m ≡ true → is_sent h m ≡ false
+pub text-unsent : (h : Case) (m : List ℕ) → is_in_text h m ≡ true → is_sent h m ≡ false
 unfolding is_sent
 text-unsent h m is = ap (is_some_rule is_allowing) (settled-whole h m (text_full h m is) ∙ text_undecided h m is)
 
 -- what may hold of a hopeless response
-data Ways (h : Head) (m : List ℕ) (dead : Bool) : Type 0 where
+data Ways (h : Case) (m : List ℕ) (dead : Bool) : Type 0 where
   by_rule : is_blocked h m ≡ true → Ways h m dead
   by_limit : is_in_text h m ≡ true → nat_lt h.limit (length m) ≡ true → Ways h m dead
   by_death : is_in_text h m ≡ true → dead ≡ true → Ways h m dead
 
-ways : (h : Head) (m : List ℕ) (dead : Bool) → is_hopeless h m dead ≡ true → Ways h m dead
+ways : (h : Case) (m : List ℕ) (dead : Bool) → is_hopeless h m dead ≡ true → Ways h m dead
 unfolding is_hopeless
 ways h m dead is = by (is_blocked h m) (is_in_text h m) (nat_lt h.limit (length m)) dead refl refl refl refl is
   where
@@ -89,11 +89,11 @@ or_second : (b c : Bool) → c ≡ true → (b || c) ≡ true
 or_second true c is = refl
 or_second false c is = is
 
-hopeless_by_rule : (h : Head) (m : List ℕ) (dead : Bool) → is_blocked h m ≡ true → is_hopeless h m dead ≡ true
+hopeless_by_rule : (h : Case) (m : List ℕ) (dead : Bool) → is_blocked h m ≡ true → is_hopeless h m dead ≡ true
 unfolding is_hopeless
 hopeless_by_rule h m dead is = or_first (is_blocked h m) (is_in_text h m && (nat_lt h.limit (length m) || dead)) is
 
-hopeless_by_text : (h : Head) (m : List ℕ) (dead : Bool) → is_in_text h m ≡ true → (nat_lt h.limit (length m) || dead) ≡ true → is_hopeless h m dead ≡ true
+hopeless_by_text : (h : Case) (m : List ℕ) (dead : Bool) → is_in_text h m ≡ true → (nat_lt h.limit (length m) || dead) ≡ true → is_hopeless h m dead ≡ true
 unfolding is_hopeless
 hopeless_by_text h m dead text is =
     or_second (is_blocked h m) (is_in_text h m && (nat_lt h.limit (length m) || dead))
@@ -102,7 +102,7 @@ hopeless_by_text h m dead text is =
 over-longer : (limit : ℕ) (m more : List ℕ) → nat_lt limit (length m) ≡ true → nat_lt limit (length (m ++ more)) ≡ true
 over-longer limit m more is = grind (arith, nat_tests, length-append m more, is)
 
-pub hopeless-longer : (h : Head) (m more : List ℕ) (dead dead' : Bool) → (dead ≡ true → dead' ≡ true) → is_hopeless h m dead ≡ true
+pub hopeless-longer : (h : Case) (m more : List ℕ) (dead dead' : Bool) → (dead ≡ true → dead' ≡ true) → is_hopeless h m dead ≡ true
     → is_hopeless h (m ++ more) dead' ≡ true
 hopeless-longer h m more dead dead' stays is = by (ways h m dead is)
   where
@@ -116,7 +116,7 @@ hopeless-longer h m more dead dead' stays is = by (ways h m dead is)
         (or_second (nat_lt h.limit (length (m ++ more))) dead' (stays d))
 
 -- before the window is full, only a rule makes it so
-pub hopeless-filled : (h : Head) (m more : List ℕ) (dead dead' : Bool) → is_full m ≡ false → is_hopeless h m dead ≡ true
+pub hopeless-filled : (h : Case) (m more : List ℕ) (dead dead' : Bool) → is_full m ≡ false → is_hopeless h m dead ≡ true
     → is_hopeless h (m ++ more) dead' ≡ true
 hopeless-filled h m more dead dead' short is = by (ways h m dead is)
   where
@@ -125,7 +125,7 @@ hopeless-filled h m more dead dead' short is = by (ways h m dead is)
     by (by_limit t o) = absurd (cc (text_full h m t, short))
     by (by_death t d) = absurd (cc (text_full h m t, short))
 
-pub hopeless-unsent : (h : Head) (m : List ℕ) (dead : Bool) → is_hopeless h m dead ≡ true → is_sent h m ≡ false
+pub hopeless-unsent : (h : Case) (m : List ℕ) (dead : Bool) → is_hopeless h m dead ≡ true → is_sent h m ≡ false
 hopeless-unsent h m dead is = by (ways h m dead is)
   where
     by : Ways h m dead → is_sent h m ≡ false
@@ -146,11 +146,11 @@ alive_script t m reads is = by (is_dead t) refl
     by false alive = refl
 
 -- what the script test of a decider has read
-pub text_read : (d : Decider) (h : Head) (m : List ℕ) → HasRead d h m → is_in_text h m ≡ true → nat_lt h.limit (length m) ≡ false
+pub text_read : (d : Decider) (h : Case) (m : List ℕ) → HasRead d h m → is_in_text h m ≡ true → nat_lt h.limit (length m) ≡ false
     → ScriptHasRead d.text.script m
 text_read d h m reads text within = (reads.text within text).script
 
-pub hopeless-blocks : (d : Decider) (h : Head) (m more : List ℕ) → HasRead d h m → is_hopeless h m (is_script_dead d) ≡ true
+pub hopeless-blocks : (d : Decider) (h : Case) (m more : List ℕ) → HasRead d h m → is_hopeless h m (is_script_dead d) ≡ true
     → is_allowing (rule_of h (m ++ more)) ≡ false
 hopeless-blocks d h m more reads is = by (ways h m (is_script_dead d) is)
   where
@@ -167,7 +167,7 @@ hopeless-blocks d h m more reads is = by (ways h m (is_script_dead d) is)
     by (by_limit t o) = over_blocks h (m ++ more) (undecided t) (over-longer h.limit m more o)
     by (by_death t dead) = by_limit_or (nat_lt h.limit (length m)) refl t dead
 
-unblocked : (h : Head) (m : List ℕ) (dead : Bool) → is_hopeless h m dead ≡ false → is_blocked h m ≡ false
+unblocked : (h : Case) (m : List ℕ) (dead : Bool) → is_hopeless h m dead ≡ false → is_blocked h m ≡ false
 unfolding is_hopeless
 unblocked h m dead is = by (is_blocked h m) is
   where
@@ -175,6 +175,6 @@ unblocked h m dead is = by (is_blocked h m) is
     by true e = e
     by false e = refl
 
-pub hopeful-short : (h : Head) (m : List ℕ) (dead : Bool) → is_sent h m ≡ false → is_hopeless h m dead ≡ false → is_in_text h m ≡ false
+pub hopeful-short : (h : Case) (m : List ℕ) (dead : Bool) → is_sent h m ≡ false → is_hopeless h m dead ≡ false → is_in_text h m ≡ false
     → length m < window_size
 hopeful-short h m dead unsent hopeful untext = open-short h m unsent (unblocked h m dead hopeful) untext

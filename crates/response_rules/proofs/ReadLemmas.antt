@@ -8,7 +8,7 @@ use Rattle.response_rules.specs.declared.rules.Rule.{Rule}
 use Rattle.response_rules.specs.declared.text.TextTest.{TextTest}
 use Rattle.response_rules.specs.declared.deciding.Count.{Count}
 use Rattle.response_rules.specs.declared.deciding.Decider.{Decider}
-use Rattle.response_rules.specs.Heads.{Head}
+use Rattle.response_rules.specs.Heads.{Case}
 use Rattle.response_rules.specs.Reads.{HasCounted, Stands}
 use Rattle.response_rules.specs.Tables.{window_size, window_of, early_rule}
 use Rattle.response_rules.specs.Settled.{is_full, is_in_text, rule_in_window, settled_rule}
@@ -58,15 +58,15 @@ unfolding window_size
 empty-short = refl
 
 -- the rule that is settled, read on: the window was full, isn't full yet, or is full now
-pub settled_on-full : (h : Head) (m p : List ℕ) (settled : Option Rule) → settled ≡ settled_rule h m → is_full m ≡ true
+pub settled_on-full : (h : Case) (m p : List ℕ) (settled : Option Rule) → settled ≡ settled_rule h m → is_full m ≡ true
     → settled ≡ settled_rule h (m ++ p)
 settled_on-full h m p settled is full = is ∙ sym (settled-full h m p full)
 
-pub settled_on-short : (h : Head) (m p : List ℕ) (settled : Option Rule) → settled ≡ settled_rule h m
+pub settled_on-short : (h : Case) (m p : List ℕ) (settled : Option Rule) → settled ≡ settled_rule h m
     → is_full m ≡ false → is_full (m ++ p) ≡ false → settled ≡ settled_rule h (m ++ p)
 settled_on-short h m p settled is short short' = is ∙ (settled-short h m short ∙ sym (settled-short h (m ++ p) short'))
 
-pub settled_on-filled : (h : Head) (m p : List ℕ) (settled : Option Rule) → settled ≡ settled_rule h m
+pub settled_on-filled : (h : Case) (m p : List ℕ) (settled : Option Rule) → settled ≡ settled_rule h m
     → is_full m ≡ false → is_full (m ++ p) ≡ true
     → option_or settled (rule_in_window h (window_of (m ++ p))) ≡ settled_rule h (m ++ p)
 settled_on-filled h m p settled is short full =
@@ -74,7 +74,7 @@ settled_on-filled h m p settled is short full =
     ∙ (sym (early-halves h (m ++ p)) ∙ sym (settled-whole h (m ++ p) full))
 
 -- the rule of head and window, before the window is full
-pub rule_by-short : (h : Head) (m : List ℕ) (settled : Option Rule) → settled ≡ settled_rule h m → is_full m ≡ false
+pub rule_by-short : (h : Case) (m : List ℕ) (settled : Option Rule) → settled ≡ settled_rule h m → is_full m ≡ false
     → option_or settled (rule_in_window h (window_of m)) ≡ early_rule h m
 rule_by-short h m settled is short =
     ap (λ o. option_or o (rule_in_window h (window_of m))) (is ∙ settled-short h m short) ∙ sym (early-halves h m)
@@ -86,18 +86,18 @@ none_by (Some r) true is = is
 none_by (Some r) false is = refl
 
 -- the body is read as text
-pub text_by-full : (h : Head) (m : List ℕ) (settled : Option Rule) (b : Bool) → settled ≡ settled_rule h m
+pub text_by-full : (h : Case) (m : List ℕ) (settled : Option Rule) (b : Bool) → settled ≡ settled_rule h m
     → is_full m ≡ true → is_some settled ≡ not b → b ≡ is_in_text h m
 unfolding is_in_text
 text_by-full h m settled b is full some =
     none_by settled b some ∙ (ap is_none (is ∙ settled-whole h m full) ∙ rw full refl)
 
-pub text_by-short : (h : Head) (m : List ℕ) → is_full m ≡ false → false ≡ is_in_text h m
+pub text_by-short : (h : Case) (m : List ℕ) → is_full m ≡ false → false ≡ is_in_text h m
 unfolding is_in_text
 text_by-short h m short = rw short refl
 
 -- a body whose window is full, read on
-pub stands_full : (d e : Decider) (h : Head) (m p : List ℕ) → e.facts ≡ d.facts → e.settled ≡ d.settled → e.window.items ≡ d.window.items
+pub stands_full : (d e : Decider) (h : Case) (m p : List ℕ) → e.facts ≡ d.facts → e.settled ≡ d.settled → e.window.items ≡ d.window.items
     → e.finished ≡ d.finished → is_full m ≡ true → Stands d h m → Stands e h (m ++ p)
 stands_full d e h m p facts settled window finished full r = record {
   states = r.states;
@@ -108,7 +108,7 @@ stands_full d e h m p facts settled window finished full r = record {
 }
 
 -- whether it is read as text
-pub text_still : (h : Head) (m p : List ℕ) → is_full m ≡ true → is_in_text h (m ++ p) ≡ is_in_text h m
+pub text_still : (h : Case) (m p : List ℕ) → is_full m ≡ true → is_in_text h (m ++ p) ≡ is_in_text h m
 unfolding is_in_text
 text_still h m p full = rw (full_longer m p full, full, early-longer h m p full) refl
 

@@ -7,7 +7,7 @@ use Rattle.response_rules.specs.declared.rules.Rule.{Rule}
 use Rattle.response_rules.specs.declared.verdicts.Policy.{Policy}
 use Rattle.response_rules.specs.declared.verdicts.Policy.TheVariants.{Orb, Corb}
 use Rattle.response_rules.specs.Rules.{Part, at_head, at_window, at_end, settled_by, row_of, is_allowing}
-use Rattle.response_rules.specs.Heads.{Head}
+use Rattle.response_rules.specs.Heads.{Case}
 use Rattle.response_rules.specs.Tables.{window_size, head_rows, head_rows_by, orb_head_rows, corb_head_rows, window_rows, window_rows_by, orb_window_rows, corb_window_rows, orb_end_rows, window_of, first_rule, early_rule, rule_of}
 use Rattle.response_rules.specs.Settled.{is_full, is_there, IsSettled, head_rule_of, rule_in_window, settled_rule, is_some_rule, is_sent, is_blocked, is_in_text}
 use Rattle.response_rules.proofs.TableLemmas.{rule_is_computed, early-halves, early_decides, end_decides}
@@ -23,18 +23,18 @@ first_rule-part part [] r settles is = absurd (none-some r is)
 first_rule-part part ((s, true) ∷ rows) r settles is = sym (ap settled_by (same_Some s r is)) ∙ settles.0
 first_rule-part part ((s, false) ∷ rows) r settles is = first_rule-part part rows r settles.1 is
 
-head_rows-part : (p : Policy) (h : Head) (r : Rule) → first_rule (head_rows_by p h) ≡ Some r → settled_by r ≡ at_head
+head_rows-part : (p : Policy) (h : Case) (r : Rule) → first_rule (head_rows_by p h) ≡ Some r → settled_by r ≡ at_head
 unfolding orb_head_rows corb_head_rows row_of Settles
 head_rows-part Orb h r is =
     first_rule-part at_head (orb_head_rows h) r (refl, (refl, (refl, (refl, (refl, (refl, (refl, (refl, tt)))))))) is
 head_rows-part Corb h r is =
     first_rule-part at_head (corb_head_rows h) r (refl, (refl, (refl, (refl, (refl, (refl, tt)))))) is
 
-head_rule-part : (h : Head) (r : Rule) → head_rule_of h ≡ Some r → settled_by r ≡ at_head
+head_rule-part : (h : Case) (r : Rule) → head_rule_of h ≡ Some r → settled_by r ≡ at_head
 unfolding head_rule_of head_rows
 head_rule-part h r is = head_rows-part h.policy h r is
 
-window_rows-part : (p : Policy) (h : Head) (window : List ℕ) (r : Rule) → first_rule (window_rows_by p h window) ≡ Some r
+window_rows-part : (p : Policy) (h : Case) (window : List ℕ) (r : Rule) → first_rule (window_rows_by p h window) ≡ Some r
     → settled_by r ≡ at_window
 unfolding orb_window_rows corb_window_rows row_of Settles
 window_rows-part Orb h window r is =
@@ -42,11 +42,11 @@ window_rows-part Orb h window r is =
 window_rows-part Corb h window r is =
     first_rule-part at_window (corb_window_rows h window) r (refl, (refl, (refl, (refl, (refl, (refl, (refl, tt))))))) is
 
-window_rule-part : (h : Head) (window : List ℕ) (r : Rule) → rule_in_window h window ≡ Some r → settled_by r ≡ at_window
+window_rule-part : (h : Case) (window : List ℕ) (r : Rule) → rule_in_window h window ≡ Some r → settled_by r ≡ at_window
 unfolding rule_in_window window_rows
 window_rule-part h window r is = window_rows-part h.policy h window r is
 
-end_rule-part : (h : Head) (body : List ℕ) (r : Rule) → first_rule (orb_end_rows h body) ≡ Some r → settled_by r ≡ at_end
+end_rule-part : (h : Case) (body : List ℕ) (r : Rule) → first_rule (orb_end_rows h body) ≡ Some r → settled_by r ≡ at_end
 unfolding orb_end_rows row_of Settles
 end_rule-part h body r is = first_rule-part at_end (orb_end_rows h body) r (refl, (refl, (refl, (refl, tt)))) is
 
@@ -74,7 +74,7 @@ settled_from None w prefix r at_head_ at_window_ is =
     full_from false full is = absurd (none-some r is)
 
 -- the rule that is settled, from the function
-pub settled_early : (h : Head) (prefix : List ℕ) (r : Rule) → settled_rule h prefix ≡ Some r
+pub settled_early : (h : Case) (prefix : List ℕ) (r : Rule) → settled_rule h prefix ≡ Some r
     → (early_rule h prefix ≡ Some r) × (is_there (settled_by r) prefix false ≡ true)
 unfolding settled_rule
 settled_early h prefix r is =
@@ -83,7 +83,7 @@ settled_early h prefix r is =
     (early-halves h prefix ∙ both.0, both.1)
 
 -- and to it
-early_settled : (h : Head) (prefix : List ℕ) (r : Rule) → early_rule h prefix ≡ Some r
+early_settled : (h : Case) (prefix : List ℕ) (r : Rule) → early_rule h prefix ≡ Some r
     → is_there (settled_by r) prefix false ≡ true → settled_rule h prefix ≡ Some r
 unfolding settled_rule
 early_settled h prefix r is there =
@@ -91,7 +91,7 @@ early_settled h prefix r is there =
     (window_rule-part h (window_of prefix) r) (sym (early-halves h prefix) ∙ is) there
 
 -- a rule of the end isn't settled by a prefix
-settled_rule_from : (h : Head) (prefix : List ℕ) (r : Rule) → rule_of h prefix ≡ r
+settled_rule_from : (h : Case) (prefix : List ℕ) (r : Rule) → rule_of h prefix ≡ r
     → is_there (settled_by r) prefix false ≡ true → settled_rule h prefix ≡ Some r
 settled_rule_from h prefix r is there = by (early_rule h prefix) refl
   where
@@ -103,7 +103,7 @@ settled_rule_from h prefix r is there = by (early_rule h prefix) refl
         let part = end_rule-part h prefix r (sym (end_decides h prefix early) ∙ ap (λ x. Some x) is) in
         absurd (cc (subst (λ p. is_there p prefix false ≡ true) part there))
 
-pub settled_is_computed : (h : Head) (prefix : List ℕ) (r : Rule) → IsSettled h r prefix false ↔ (settled_rule h prefix ≡ Some r)
+pub settled_is_computed : (h : Case) (prefix : List ℕ) (r : Rule) → IsSettled h r prefix false ↔ (settled_rule h prefix ≡ Some r)
 settled_is_computed h prefix r = (
   (λ s. settled_rule_from h prefix r ((rule_is_computed h prefix r).0 s.decides_it) s.there),
   (λ is.
@@ -118,7 +118,7 @@ full_longer prefix more full = grind (arith, length-append prefix more, full)
 pub window_longer : (prefix more : List ℕ) → is_full prefix ≡ true → window_of (prefix ++ more) ≡ window_of prefix
 window_longer prefix more full = take-append-le window_size prefix more (grind (arith, full))
 
-pub settled-full : (h : Head) (prefix more : List ℕ) → is_full prefix ≡ true → settled_rule h (prefix ++ more) ≡ settled_rule h prefix
+pub settled-full : (h : Case) (prefix more : List ℕ) → is_full prefix ≡ true → settled_rule h (prefix ++ more) ≡ settled_rule h prefix
 unfolding settled_rule
 settled-full h prefix more full =
     rw (full_longer prefix more full, window_longer prefix more full, full) refl
@@ -130,18 +130,18 @@ longer_by (Some s) w w' f f' r stays same is = is
 longer_by None w w' true f' r stays same is = rw (stays refl, same refl) is
 longer_by None w w' false f' r stays same is = absurd (none-some r is)
 
-pub settled-longer : (h : Head) (prefix more : List ℕ) (r : Rule) → settled_rule h prefix ≡ Some r → settled_rule h (prefix ++ more) ≡ Some r
+pub settled-longer : (h : Case) (prefix more : List ℕ) (r : Rule) → settled_rule h prefix ≡ Some r → settled_rule h (prefix ++ more) ≡ Some r
 unfolding settled_rule
 settled-longer h prefix more r is =
     longer_by (head_rule_of h) (rule_in_window h (window_of prefix)) (rule_in_window h (window_of (prefix ++ more)))
     (is_full prefix) (is_full (prefix ++ more)) r
     (full_longer prefix more) (λ full. ap (rule_in_window h) (window_longer prefix more full)) is
 
-pub settled-decides : (h : Head) (prefix more : List ℕ) (r : Rule) → settled_rule h prefix ≡ Some r → rule_of h (prefix ++ more) ≡ r
+pub settled-decides : (h : Case) (prefix more : List ℕ) (r : Rule) → settled_rule h prefix ≡ Some r → rule_of h (prefix ++ more) ≡ r
 settled-decides h prefix more r is =
     early_decides h (prefix ++ more) r (settled_early h (prefix ++ more) r (settled-longer h prefix more r is)).0
 
-pub settled-decides_now : (h : Head) (prefix : List ℕ) (r : Rule) → settled_rule h prefix ≡ Some r → rule_of h prefix ≡ r
+pub settled-decides_now : (h : Case) (prefix : List ℕ) (r : Rule) → settled_rule h prefix ≡ Some r → rule_of h prefix ≡ r
 settled-decides_now h prefix r is = early_decides h prefix r (settled_early h prefix r is).0
 
 -- what a test of the settled rule says
@@ -154,24 +154,24 @@ passes_from : (test : Rule → Bool) (o : Option Rule) → is_some_rule test o �
 passes_from test None is = grind (arith, is)
 passes_from test (Some r) is = record { found = r; is = refl; passes = is }
 
-test_longer : (test : Rule → Bool) (h : Head) (prefix more : List ℕ) → is_some_rule test (settled_rule h prefix) ≡ true
+test_longer : (test : Rule → Bool) (h : Case) (prefix more : List ℕ) → is_some_rule test (settled_rule h prefix) ≡ true
     → is_some_rule test (settled_rule h (prefix ++ more)) ≡ true
 test_longer test h prefix more is =
     let p = passes_from test (settled_rule h prefix) is in
     rw (settled-longer h prefix more p.found p.is) p.passes
 
 -- a body that may be passed on
-pub sent-longer : (h : Head) (prefix more : List ℕ) → is_sent h prefix ≡ true → is_sent h (prefix ++ more) ≡ true
+pub sent-longer : (h : Case) (prefix more : List ℕ) → is_sent h prefix ≡ true → is_sent h (prefix ++ more) ≡ true
 unfolding is_sent
 sent-longer h prefix more is = test_longer is_allowing h prefix more is
 
-pub sent-rule : (h : Head) (prefix more : List ℕ) → is_sent h prefix ≡ true → rule_of h (prefix ++ more) ≡ rule_of h prefix
+pub sent-rule : (h : Case) (prefix more : List ℕ) → is_sent h prefix ≡ true → rule_of h (prefix ++ more) ≡ rule_of h prefix
 unfolding is_sent
 sent-rule h prefix more is =
     let p = passes_from is_allowing (settled_rule h prefix) is in
     settled-decides h prefix more p.found p.is ∙ sym (settled-decides_now h prefix p.found p.is)
 
-pub sent-allows : (h : Head) (prefix : List ℕ) → is_sent h prefix ≡ true → is_allowing (rule_of h prefix) ≡ true
+pub sent-allows : (h : Case) (prefix : List ℕ) → is_sent h prefix ≡ true → is_allowing (rule_of h prefix) ≡ true
 unfolding is_sent
 sent-allows h prefix is =
     let p = passes_from is_allowing (settled_rule h prefix) is in
@@ -183,24 +183,24 @@ not_true : (b : Bool) → not b ≡ true → b ≡ false
 not_true true is = sym is
 not_true false is = refl
 
-pub blocked-longer : (h : Head) (prefix more : List ℕ) → is_blocked h prefix ≡ true → is_blocked h (prefix ++ more) ≡ true
+pub blocked-longer : (h : Case) (prefix more : List ℕ) → is_blocked h prefix ≡ true → is_blocked h (prefix ++ more) ≡ true
 unfolding is_blocked
 blocked-longer h prefix more is = test_longer (λ r. not (is_allowing r)) h prefix more is
 
-pub blocked-blocks : (h : Head) (prefix more : List ℕ) → is_blocked h prefix ≡ true → is_allowing (rule_of h (prefix ++ more)) ≡ false
+pub blocked-blocks : (h : Case) (prefix more : List ℕ) → is_blocked h prefix ≡ true → is_allowing (rule_of h (prefix ++ more)) ≡ false
 unfolding is_blocked
 blocked-blocks h prefix more is =
     let p = passes_from (λ s. not (is_allowing s)) (settled_rule h prefix) is in
     ap is_allowing (settled-decides h prefix more p.found p.is) ∙ not_true (is_allowing p.found) p.passes
 
-pub blocked-unsent : (h : Head) (prefix : List ℕ) → is_blocked h prefix ≡ true → is_sent h prefix ≡ false
+pub blocked-unsent : (h : Case) (prefix : List ℕ) → is_blocked h prefix ≡ true → is_sent h prefix ≡ false
 unfolding is_blocked is_sent
 blocked-unsent h prefix is =
     let p = passes_from (λ s. not (is_allowing s)) (settled_rule h prefix) is in
     rw p.is (not_true (is_allowing p.found) p.passes)
 
 -- what the two tests say of the rule that is settled
-tested : (test : Rule → Bool) (h : Head) (prefix : List ℕ)
+tested : (test : Rule → Bool) (h : Case) (prefix : List ℕ)
     → (is_some_rule test (settled_rule h prefix) ≡ true) ↔ ((r : Rule) × IsSettled h r prefix false × (test r ≡ true))
 tested test h prefix = (
   (λ is.
@@ -212,12 +212,12 @@ tested test h prefix = (
 not_false : (b : Bool) → b ≡ false → not b ≡ true
 not_false b is = ap not is
 
-pub sent-settled : (h : Head) (prefix : List ℕ)
+pub sent-settled : (h : Case) (prefix : List ℕ)
     → (is_sent h prefix ≡ true) ↔ ((r : Rule) × IsSettled h r prefix false × (is_allowing r ≡ true))
 unfolding is_sent
 sent-settled h prefix = tested is_allowing h prefix
 
-pub blocked-settled : (h : Head) (prefix : List ℕ)
+pub blocked-settled : (h : Case) (prefix : List ℕ)
     → (is_blocked h prefix ≡ true) ↔ ((r : Rule) × IsSettled h r prefix false × (is_allowing r ≡ false))
 unfolding is_blocked
 blocked-settled h prefix =
@@ -234,12 +234,12 @@ short_halves : (a w : Option Rule) (f : Bool) → f ≡ false → option_or a (i
 short_halves None w f short = rw short refl
 short_halves (Some r) w f short = refl
 
-pub settled-whole : (h : Head) (prefix : List ℕ) → is_full prefix ≡ true → settled_rule h prefix ≡ early_rule h prefix
+pub settled-whole : (h : Case) (prefix : List ℕ) → is_full prefix ≡ true → settled_rule h prefix ≡ early_rule h prefix
 unfolding settled_rule
 settled-whole h prefix full =
     full_halves (head_rule_of h) (rule_in_window h (window_of prefix)) (is_full prefix) full ∙ sym (early-halves h prefix)
 
-pub settled-short : (h : Head) (prefix : List ℕ) → is_full prefix ≡ false → settled_rule h prefix ≡ head_rule_of h
+pub settled-short : (h : Case) (prefix : List ℕ) → is_full prefix ≡ false → settled_rule h prefix ≡ head_rule_of h
 unfolding settled_rule
 settled-short h prefix short =
     short_halves (head_rule_of h) (rule_in_window h (window_of prefix)) (is_full prefix) short
@@ -249,7 +249,7 @@ neither : (o : Option Rule) → is_some_rule is_allowing o ≡ false → is_some
 neither None unsent unblocked = refl
 neither (Some r) unsent unblocked = grind (arith, ap not unsent, unblocked)
 
-pub open-short : (h : Head) (prefix : List ℕ) → is_sent h prefix ≡ false → is_blocked h prefix ≡ false → is_in_text h prefix ≡ false
+pub open-short : (h : Case) (prefix : List ℕ) → is_sent h prefix ≡ false → is_blocked h prefix ≡ false → is_in_text h prefix ≡ false
     → length prefix < window_size
 unfolding is_sent is_blocked is_in_text
 open-short h prefix unsent unblocked untext =

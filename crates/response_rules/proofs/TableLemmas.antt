@@ -5,7 +5,7 @@ use Rattle.std.specs.Option.{option_or, option_map}
 use Rattle.std.proofs.lemmas.List.Folds.{find-append}
 use Rattle.std.proofs.lemmas.Option.{none-some, same_Some}
 use Rattle.response_rules.specs.declared.rules.Rule.{Rule}
-use Rattle.response_rules.specs.Heads.{Head}
+use Rattle.response_rules.specs.Heads.{Case}
 use Rattle.response_rules.specs.declared.rules.Rule.TheVariants.{Script}
 use Rattle.response_rules.specs.declared.verdicts.Policy.{Policy}
 use Rattle.response_rules.specs.declared.verdicts.Policy.TheVariants.{Orb, Corb}
@@ -58,12 +58,12 @@ first-first_rule ((s, false) ∷ rows) r is =
     }
 
 -- the rule of head and window
-pub early_is_computed : (h : Head) (body : List ℕ) (r : Rule) → IsFirst (early_rows h body) r ↔ (early_rule h body ≡ Some r)
+pub early_is_computed : (h : Case) (body : List ℕ) (r : Rule) → IsFirst (early_rows h body) r ↔ (early_rule h body ≡ Some r)
 unfolding early_rule
 early_is_computed h body r = (first_rule-first (early_rows h body) r, first-first_rule (early_rows h body) r)
 
 -- by its two halves
-pub early-halves : (h : Head) (body : List ℕ)
+pub early-halves : (h : Case) (body : List ℕ)
     → early_rule h body ≡ option_or (head_rule_of h) (rule_in_window h (window_of body))
 unfolding early_rule head_rule_of rule_in_window
 early-halves h body = first_rule-append (head_rows h) (window_rows h (window_of body))
@@ -81,7 +81,7 @@ some_holds ((r, false) ∷ []) ends = absurd (cc ends)
 some_holds ((r, false) ∷ (next ∷ rows)) ends = some_holds (next ∷ rows) ends
 
 -- one of the rules of CORB that the window decides holds
-pub corb_decides : (h : Head) (body : List ℕ) → h.policy ≡ Corb → is_some (early_rule h body) ≡ true
+pub corb_decides : (h : Case) (body : List ℕ) → h.policy ≡ Corb → is_some (early_rule h body) ≡ true
 unfolding early_rule window_rows corb_window_rows
 corb_decides h body corb =
     let some : is_some (first_rule (window_rows_by Corb h (window_of body))) ≡ true = some_holds (corb_window_rows h (window_of body)) refl in
@@ -94,7 +94,7 @@ corb_decides h body corb =
     either (Some r) b some = refl
 
 -- where neither head nor window decides, the rules are those of ORB
-pub undecided_is_orb : (h : Head) (body : List ℕ) → early_rule h body ≡ None → h.policy ≡ Orb
+pub undecided_is_orb : (h : Case) (body : List ℕ) → early_rule h body ≡ None → h.policy ≡ Orb
 undecided_is_orb h body none = by h.policy refl
   where
     by : (p : Policy) → h.policy ≡ p → h.policy ≡ Orb
@@ -102,15 +102,15 @@ undecided_is_orb h body none = by h.policy refl
     by Corb is = absurd (cc (corb_decides h body is, ap is_some none))
 
 -- the rule of the end that holds first
-pub end_rule : Head → List ℕ → Option Rule
+pub end_rule : Case → List ℕ → Option Rule
 end_rule h body = first_rule (end_rows h body)
 
-pub rule-halves : (h : Head) (body : List ℕ) → first_rule (rows_of h body) ≡ option_or (early_rule h body) (end_rule h body)
+pub rule-halves : (h : Case) (body : List ℕ) → first_rule (rows_of h body) ≡ option_or (early_rule h body) (end_rule h body)
 unfolding early_rule end_rule
 rule-halves h body = first_rule-append (early_rows h body) (end_rows h body)
 
 -- a rule holds
-some_rule : (h : Head) (body : List ℕ) → is_some (first_rule (rows_of h body)) ≡ true
+some_rule : (h : Case) (body : List ℕ) → is_some (first_rule (rows_of h body)) ≡ true
 unfolding end_rows orb_end_rows end_rule
 some_rule h body = by (early_rule h body) refl
   where
@@ -121,7 +121,7 @@ some_rule h body = by (early_rule h body) refl
         ap is_some (rule-halves h body) ∙ ap (λ o. is_some (option_or o (end_rule h body))) is
         ∙ subst (λ (p : Policy). is_some (first_rule (end_rows_by p h body)) ≡ true) (sym (undecided_is_orb h body is)) holds
 
-pub first_is : (h : Head) (body : List ℕ) → first_rule (rows_of h body) ≡ Some (rule_of h body)
+pub first_is : (h : Case) (body : List ℕ) → first_rule (rows_of h body) ≡ Some (rule_of h body)
 unfolding rule_of
 first_is h body = by (first_rule (rows_of h body)) (some_rule h body)
   where
@@ -130,19 +130,19 @@ first_is h body = by (first_rule (rows_of h body)) (some_rule h body)
     by (Some r) some = refl
 
 -- the function of a whole body
-pub rule_is_computed : (h : Head) (body : List ℕ) (r : Rule) → IsRule h body r ↔ (rule_of h body ≡ r)
+pub rule_is_computed : (h : Case) (body : List ℕ) (r : Rule) → IsRule h body r ↔ (rule_of h body ≡ r)
 rule_is_computed h body r = (
   λ is. same_Some (rule_of h body) r (sym (first_is h body) ∙ first_rule-first (rows_of h body) r is),
   λ same. first-first_rule (rows_of h body) r (first_is h body ∙ ap (λ o. Some o) same),
 )
 
 -- the rule of head or window decides the whole body
-pub early_decides : (h : Head) (body : List ℕ) (r : Rule) → early_rule h body ≡ Some r → rule_of h body ≡ r
+pub early_decides : (h : Case) (body : List ℕ) (r : Rule) → early_rule h body ≡ Some r → rule_of h body ≡ r
 early_decides h body r is =
     same_Some (rule_of h body) r (sym (first_is h body) ∙ rule-halves h body ∙ ap (λ o. option_or o (end_rule h body)) is)
 
 -- and where there is none, that of the end does
-pub end_decides : (h : Head) (body : List ℕ) → early_rule h body ≡ None → Some (rule_of h body) ≡ first_rule (orb_end_rows h body)
+pub end_decides : (h : Case) (body : List ℕ) → early_rule h body ≡ None → Some (rule_of h body) ≡ first_rule (orb_end_rows h body)
 unfolding end_rows end_rule
 end_decides h body none =
     sym (first_is h body) ∙ rule-halves h body ∙ ap (λ o. option_or o (end_rule h body)) none

@@ -8,7 +8,7 @@ use Rattle.es5_lexer.proofs.DecidedLemmas.{Decision}
 use Rattle.es5_machine.specs.Scripts.{IsScript}
 use Rattle.es5_machine.proofs.Decided.{decided_text}
 use Rattle.response_rules.specs.declared.rules.Rule.TheVariants.{BodyLimit, NotScript, Json, Script}
-use Rattle.response_rules.specs.Heads.{Head}
+use Rattle.response_rules.specs.Heads.{Case}
 use Rattle.response_rules.specs.Texts.{truth_of, is_script, is_json}
 use Rattle.response_rules.specs.Rules.{is_allowing, row_of}
 use Rattle.response_rules.specs.Tables.{early_rule, orb_end_rows, first_rule, rule_of}
@@ -60,21 +60,21 @@ first_of_end false false json = refl
 first_of_end false true true = refl
 first_of_end false true false = refl
 
-end_is : (h : Head) (body : List ℕ) → early_rule h body ≡ None
+end_is : (h : Case) (body : List ℕ) → early_rule h body ≡ None
     → rule_of h body ≡ (if nat_lt h.limit (length body) then BodyLimit else text_rule body)
 unfolding orb_end_rows
 end_is h body none =
     same_Some (rule_of h body) (if nat_lt h.limit (length body) then BodyLimit else text_rule body)
     (end_decides h body none ∙ first_of_end (nat_lt h.limit (length body)) (is_script body) (is_json body))
 
-pub over_is : (h : Head) (body : List ℕ) → early_rule h body ≡ None → nat_lt h.limit (length body) ≡ true → rule_of h body ≡ BodyLimit
+pub over_is : (h : Case) (body : List ℕ) → early_rule h body ≡ None → nat_lt h.limit (length body) ≡ true → rule_of h body ≡ BodyLimit
 over_is h body none over = end_is h body none ∙ ap (λ b. if b then BodyLimit else text_rule body) over
 
-pub text_is : (h : Head) (body : List ℕ) → early_rule h body ≡ None → nat_lt h.limit (length body) ≡ false → rule_of h body ≡ text_rule body
+pub text_is : (h : Case) (body : List ℕ) → early_rule h body ≡ None → nat_lt h.limit (length body) ≡ false → rule_of h body ≡ text_rule body
 text_is h body none within = end_is h body none ∙ ap (λ b. if b then BodyLimit else text_rule body) within
 
 -- what is no script isn't allowed by a rule of the end
-pub no_script_blocks : (h : Head) (body : List ℕ) → early_rule h body ≡ None → is_script body ≡ false → is_allowing (rule_of h body) ≡ false
+pub no_script_blocks : (h : Case) (body : List ℕ) → early_rule h body ≡ None → is_script body ≡ false → is_allowing (rule_of h body) ≡ false
 unfolding row_of
 no_script_blocks h body none never =
     ap is_allowing (end_is h body none) ∙ by (nat_lt h.limit (length body)) (is_script body) never
@@ -85,6 +85,6 @@ no_script_blocks h body none never =
     by false true is = absurd (cc is)
     by false false is = refl
 
-pub over_blocks : (h : Head) (body : List ℕ) → early_rule h body ≡ None → nat_lt h.limit (length body) ≡ true → is_allowing (rule_of h body) ≡ false
+pub over_blocks : (h : Case) (body : List ℕ) → early_rule h body ≡ None → nat_lt h.limit (length body) ≡ true → is_allowing (rule_of h body) ≡ false
 unfolding row_of
 over_blocks h body none over = ap is_allowing (over_is h body none over)

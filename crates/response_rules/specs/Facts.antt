@@ -4,7 +4,7 @@ use Rattle.mime_types.specs.Sets.{is_safelisted_type, is_never_sniffed_type, is_
 use Rattle.header_values.specs.Questions.{is_nosniff, is_coded}
 use Rattle.response_rules.specs.declared.groups.Groups.{Groups}
 use Rattle.response_rules.specs.declared.facts.Facts.{Facts}
-use Rattle.response_rules.specs.Heads.{Head, HasEssence, IsHead, is_in, has_first}
+use Rattle.response_rules.specs.Heads.{Case, HasEssence, IsCase, is_in, has_first}
 
 -- the groups of an essence; of none no group
 abbrev pub groups_of : Option (List ℕ × List ℕ) → Groups
@@ -26,7 +26,7 @@ AreGroups fields groups =
     (essence : Option (List ℕ × List ℕ)) × HasEssence fields essence × (groups ≡ groups_of essence)
 
 -- what the rules ask of a head
-abbrev pub facts_of : Head → Facts
+abbrev pub facts_of : Case → Facts
 facts_of h = record {
   policy = h.policy;
   state = h.state;
@@ -40,6 +40,6 @@ facts_of h = record {
 }
 
 -- these are the facts of a response with this head
-pub record AreFactsOf (facts : Facts) (h : Head) : Type 0 where
-  pub states : IsHead h
+pub record AreFactsOf (facts : Facts) (h : Case) : Type 0 where
+  pub states : IsCase h
   pub are : facts ≡ facts_of h

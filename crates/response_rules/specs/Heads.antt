@@ -9,7 +9,7 @@ use Rattle.media_state.specs.declared.states.MediaState.{MediaState}
 use Rattle.media_state.specs.declared.states.MediaState.TheVariants as state
 use Rattle.response_rules.specs.declared.verdicts.Policy.{Policy}
 
-pub record Head : Type 0 where
+pub record Case : Type 0 where
   -- the rules that judge it
   pub policy : Policy
   -- the state of the request's media resource before it
@@ -35,8 +35,8 @@ abbrev pub HasOneEssence : List (List ℕ × List ℕ) → Type 0
 HasOneEssence fields = (a b : Option (List ℕ × List ℕ)) → HasEssence fields a → HasEssence fields b → a ≡ b
 
 -- the essence is that of the fields
-abbrev pub IsHead : Head → Type 0
-IsHead h = HasEssence h.fields h.essence
+abbrev pub IsCase : Case → Type 0
+IsCase h = HasEssence h.fields h.essence
 
 -- there is an essence, and it is in the group
 abbrev pub is_in : (List ℕ → List ℕ → Bool) → Option (List ℕ × List ℕ) → Bool

@@ -14,15 +14,15 @@ use Rattle.response_rules.specs.declared.text.TextTest.{TextTest}
 use Rattle.response_rules.specs.declared.deciding.Count.{Count}
 use Rattle.response_rules.specs.declared.deciding.Decider.{Decider}
 use Rattle.response_rules.specs.Rules.{is_allowing, state_after_rule}
-use Rattle.response_rules.specs.Heads.{Head, IsHead}
+use Rattle.response_rules.specs.Heads.{Case, IsCase}
 use Rattle.response_rules.specs.Tables.{window_of, rule_of}
 use Rattle.response_rules.specs.Texts.{is_script, is_json}
 use Rattle.response_rules.specs.Settled.{settled_rule, is_in_text}
 use Rattle.response_rules.specs.Facts.{facts_of}
 
 -- the head of a response that is made of these
-abbrev pub head_of : Policy → MediaState → Bool → ℕ → List (List ℕ × List ℕ) → ℕ → Option (List ℕ × List ℕ) → Head
-head_of policy state opaque status fields limit essence = record {
+abbrev pub case_of : Policy → MediaState → Bool → ℕ → List (List ℕ × List ℕ) → ℕ → Option (List ℕ × List ℕ) → Case
+case_of policy state opaque status fields limit essence = record {
   policy = policy;
   state = state;
   opaque = opaque;
@@ -55,26 +55,26 @@ pub record HasCounted (c : Count) (limit n : ℕ) : Type 0 where
   pub over : c.over ≡ nat_lt limit n
 
 -- it was made for a response with this head, and knows what this prefix of the body settles
-pub record Stands (d : Decider) (h : Head) (m : List ℕ) : Type 0 where
-  pub states : IsHead h
+pub record Stands (d : Decider) (h : Case) (m : List ℕ) : Type 0 where
+  pub states : IsCase h
   pub facts : d.facts ≡ facts_of h
   pub settled : d.settled ≡ settled_rule h m
   pub window : d.window.items ≡ window_of m
   pub active : d.finished ≡ false
 
 -- it has read the body, where that is text and not over the limit
-abbrev pub TextStands : Decider → Head → List ℕ → (over : Bool) → Type 0
+abbrev pub TextStands : Decider → Case → List ℕ → (over : Bool) → Type 0
 TextStands d h m over = over ≡ false → is_in_text h m ≡ true → TextHasRead d.text m
 
 -- the decider was made for a response with this head, and has read this prefix of its body
-pub record HasRead (d : Decider) (h : Head) (m : List ℕ) : Type 0 where
+pub record HasRead (d : Decider) (h : Case) (m : List ℕ) : Type 0 where
   pub stands : Stands d h m
   pub counted : HasCounted d.count h.limit (length m)
   pub text : TextStands d h m (nat_lt h.limit (length m))
 
 -- it has read a prefix of a body, and given no verdict yet
 pub record CanFinish (d : Decider) : Type 0 where
-  pub h : Head
+  pub h : Case
   pub m : List ℕ
   pub reads : HasRead d h m
 
@@ -83,7 +83,7 @@ abbrev pub progress_of : Bool → Progress
 progress_of sent = if sent then Allowed else Open
 
 -- the verdict on a response with that whole body
-pub record IsVerdict (h : Head) (body : List ℕ) (verdict : Verdict) : Type 0 where
+pub record IsVerdict (h : Case) (body : List ℕ) (verdict : Verdict) : Type 0 where
   pub rule : verdict.rule ≡ rule_of h body
   pub allow : verdict.allow ≡ is_allowing verdict.rule
   pub state : verdict.state ≡ state_after_rule h.state verdict.rule

@@ -3,7 +3,7 @@ use Rattle.std.specs.Prelude.{◌≡◌, ℕ, Bool, true, false, not, ◌&&◌, 
 use Rattle.std.specs.Option.{option_or}
 use Rattle.response_rules.specs.declared.rules.Rule.{Rule}
 use Rattle.response_rules.specs.Rules.{Part, at_head, at_window, at_end, settled_by, is_allowing}
-use Rattle.response_rules.specs.Heads.{Head}
+use Rattle.response_rules.specs.Heads.{Case}
 use Rattle.response_rules.specs.Tables.{window_size, window_of, head_rows, window_rows, first_rule, IsRule, early_rule}
 
 -- so many bytes of the body fill the window
@@ -17,20 +17,20 @@ is_there at_window prefix whole = whole || is_full prefix
 is_there at_end prefix whole = whole
 
 -- the rule decides the response with the prefix as its body, and what settles it is there
-pub record IsSettled (h : Head) (decides : Rule) (prefix : List ℕ) (whole : Bool) : Type 0 where
+pub record IsSettled (h : Case) (decides : Rule) (prefix : List ℕ) (whole : Bool) : Type 0 where
   pub decides_it : IsRule h prefix decides
   pub there : is_there (settled_by decides) prefix whole ≡ true
 
 -- the rule of the head that holds first
-unfoldable pub head_rule_of : Head → Option Rule
+unfoldable pub head_rule_of : Case → Option Rule
 head_rule_of h = first_rule (head_rows h)
 
 -- the rule of the window that holds first
-unfoldable pub rule_in_window : Head → List ℕ → Option Rule
+unfoldable pub rule_in_window : Case → List ℕ → Option Rule
 rule_in_window h window = first_rule (window_rows h window)
 
 -- `IsSettled` as a function, for a prefix that needn't be whole
-unfoldable pub settled_rule : Head → List ℕ → Option Rule
+unfoldable pub settled_rule : Case → List ℕ → Option Rule
 settled_rule h prefix =
     option_or (head_rule_of h) (if is_full prefix then rule_in_window h (window_of prefix) else None)
 
@@ -40,19 +40,19 @@ is_some_rule test None = false
 is_some_rule test (Some decides) = test decides
 
 -- a rule that allows is settled by the prefix
-unfoldable pub is_sent : Head → List ℕ → Bool
+unfoldable pub is_sent : Case → List ℕ → Bool
 is_sent h prefix = is_some_rule is_allowing (settled_rule h prefix)
 
 -- a rule that blocks is settled by the prefix
-unfoldable pub is_blocked : Head → List ℕ → Bool
+unfoldable pub is_blocked : Case → List ℕ → Bool
 is_blocked h prefix = is_some_rule (λ decides. not (is_allowing decides)) (settled_rule h prefix)
 
 -- the window is full, and no rule of the head or the window holds: the body is read as text
-unfoldable pub is_in_text : Head → List ℕ → Bool
+unfoldable pub is_in_text : Case → List ℕ → Bool
 is_in_text h prefix = is_full prefix && is_none (early_rule h prefix)
 
 -- Nothing can allow the response any more: a rule that blocks is settled, or the body is read as text and is longer
 -- than the limit or known to begin no script.
-unfoldable pub is_hopeless : Head → List ℕ → (dead : Bool) → Bool
+unfoldable pub is_hopeless : Case → List ℕ → (dead : Bool) → Bool
 is_hopeless h prefix dead =
     is_blocked h prefix || (is_in_text h prefix && (nat_lt h.limit (length prefix) || dead))

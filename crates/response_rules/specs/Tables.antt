@@ -12,7 +12,7 @@ use Rattle.response_rules.specs.declared.rules.Rule.{Rule}
 use Rattle.response_rules.specs.declared.rules.Rule.TheVariants as rule
 use Rattle.response_rules.specs.declared.verdicts.Policy.{Policy}
 use Rattle.response_rules.specs.declared.verdicts.Policy.TheVariants.{Orb, Corb}
-use Rattle.response_rules.specs.Heads.{Head, is_in, has_first, is_na, is_initial, is_subsequent}
+use Rattle.response_rules.specs.Heads.{Case, is_in, has_first, is_na, is_initial, is_subsequent}
 
 -- how many bytes of a body are looked at for its type
 unfoldable pub window_size : ℕ
@@ -25,7 +25,7 @@ window_of body = take window_size body
 -- ---- Opaque Response Blocking
 
 -- the rules that the head alone decides, each with whether it holds
-unfoldable pub orb_head_rows : Head → List (Rule × Bool)
+unfoldable pub orb_head_rows : Case → List (Rule × Bool)
 orb_head_rows h =
     (rule.NotOpaque, not h.opaque)
     ∷ (rule.Safelisted, is_in is_safelisted_type h.essence)
@@ -42,7 +42,7 @@ orb_head_rows h =
     ∷ []
 
 -- the rules that the window decides, which are asked after those
-unfoldable pub orb_window_rows : Head → List ℕ → List (Rule × Bool)
+unfoldable pub orb_window_rows : Case → List ℕ → List (Rule × Bool)
 orb_window_rows h window =
     (rule.MediaUnexpected, is_some (media_of window) && not (is_initial h.state))
     ∷ (rule.MediaStatus, is_some (media_of window) && not (h.status == 200 || h.status == 206))
@@ -56,7 +56,7 @@ orb_window_rows h window =
     ∷ []
 
 -- the rules that the whole body decides, the last of which always holds
-unfoldable pub orb_end_rows : Head → List ℕ → List (Rule × Bool)
+unfoldable pub orb_end_rows : Case → List ℕ → List (Rule × Bool)
 orb_end_rows h body =
     (rule.BodyLimit, nat_lt h.limit (length body))
     ∷ (rule.NotScript, not (is_script body))
@@ -67,14 +67,14 @@ orb_end_rows h body =
 -- ---- Cross-Origin Read Blocking
 
 -- the type is of the group, or plain text
-abbrev pub is_or_plain : (List ℕ → List ℕ → Bool) → Head → Bool
+abbrev pub is_or_plain : (List ℕ → List ℕ → Bool) → Case → Bool
 is_or_plain group h = is_in group h.essence || is_in is_plain_text_type h.essence
 
 -- the type is a protected one, or plain text
-abbrev pub is_guarded : Head → Bool
+abbrev pub is_guarded : Case → Bool
 is_guarded h = is_or_plain is_blocklisted_type h
 
-unfoldable pub corb_head_rows : Head → List (Rule × Bool)
+unfoldable pub corb_head_rows : Case → List (Rule × Bool)
 corb_head_rows h =
     (rule.NotOpaque, not h.opaque)
     ∷ (rule.CorbSafelisted, is_in is_safelisted_type h.essence)
@@ -85,7 +85,7 @@ corb_head_rows h =
     ∷ []
 
 -- the last of them always holds
-unfoldable pub corb_window_rows : Head → List ℕ → List (Rule × Bool)
+unfoldable pub corb_window_rows : Case → List ℕ → List (Rule × Bool)
 corb_window_rows h window =
     (rule.CorbBreaker, not (is_coded h.fields) && has_breaker window)
     ∷ (rule.CorbHtml, is_or_plain is_html_type h && sniffs_html window)
@@ -98,33 +98,33 @@ corb_window_rows h window =
 
 -- ---- both
 
-abbrev pub head_rows_by : Policy → Head → List (Rule × Bool)
+abbrev pub head_rows_by : Policy → Case → List (Rule × Bool)
 head_rows_by Orb h = orb_head_rows h
 head_rows_by Corb h = corb_head_rows h
 
-abbrev pub window_rows_by : Policy → Head → List ℕ → List (Rule × Bool)
+abbrev pub window_rows_by : Policy → Case → List ℕ → List (Rule × Bool)
 window_rows_by Orb h window = orb_window_rows h window
 window_rows_by Corb h window = corb_window_rows h window
 
-abbrev pub end_rows_by : Policy → Head → List ℕ → List (Rule × Bool)
+abbrev pub end_rows_by : Policy → Case → List ℕ → List (Rule × Bool)
 end_rows_by Orb h body = orb_end_rows h body
 end_rows_by Corb h body = []
 
-unfoldable pub head_rows : Head → List (Rule × Bool)
+unfoldable pub head_rows : Case → List (Rule × Bool)
 head_rows h = head_rows_by h.policy h
 
-unfoldable pub window_rows : Head → List ℕ → List (Rule × Bool)
+unfoldable pub window_rows : Case → List ℕ → List (Rule × Bool)
 window_rows h window = window_rows_by h.policy h window
 
-unfoldable pub end_rows : Head → List ℕ → List (Rule × Bool)
+unfoldable pub end_rows : Case → List ℕ → List (Rule × Bool)
 end_rows h body = end_rows_by h.policy h body
 
 -- the rules of the head and the window, for a body that begins with that window
-abbrev pub early_rows : Head → List ℕ → List (Rule × Bool)
+abbrev pub early_rows : Case → List ℕ → List (Rule × Bool)
 early_rows h body = head_rows h ++ window_rows h (window_of body)
 
 -- all rules, for a whole body
-abbrev pub rows_of : Head → List ℕ → List (Rule × Bool)
+abbrev pub rows_of : Case → List ℕ → List (Rule × Bool)
 rows_of h body = early_rows h body ++ end_rows h body
 
 -- it is the first rule of the table that holds
@@ -135,7 +135,7 @@ pub record IsFirst (rows : List (Rule × Bool)) (decides : Rule) : Type 0 where
   pub first : list_any (λ row. row.1) before ≡ false
 
 -- the rule that decides a response with that whole body
-abbrev pub IsRule : Head → List ℕ → Rule → Type 0
+abbrev pub IsRule : Case → List ℕ → Rule → Type 0
 IsRule h body decides = IsFirst (rows_of h body) decides
 
 -- `IsFirst` as a function
@@ -143,9 +143,9 @@ abbrev pub first_rule : List (Rule × Bool) → Option Rule
 first_rule rows = option_map (λ row. row.0) (find (λ row. row.1) rows)
 
 -- the rule of the head or the window that decides, if one does
-unfoldable pub early_rule : Head → List ℕ → Option Rule
+unfoldable pub early_rule : Case → List ℕ → Option Rule
 early_rule h body = first_rule (early_rows h body)
 
 -- `IsRule` as a function: one rule always holds
-unfoldable pub rule_of : Head → List ℕ → Rule
+unfoldable pub rule_of : Case → List ℕ → Rule
 rule_of h body = unwrap_or (first_rule (rows_of h body)) rule.Script

@@ -67,11 +67,11 @@ pub struct Decider {
 impl Decider {
     ghost use Rattle.std.specs.Prelude.{Bool, Option, Some, true, false, [], IsTrue};
     ghost use Rattle.header_values.specs.Fields.{AreOfHead, pairs_in};
-    ghost use Rattle.response_rules.specs.Heads.{Head, HasEssence};
+    ghost use Rattle.response_rules.specs.Heads.{Case, HasEssence};
     ghost use Rattle.response_rules.specs.Tables.{rule_of};
     ghost use Rattle.response_rules.specs.Settled.{is_sent, is_in_text, is_hopeless};
     ghost use Rattle.response_rules.specs.Facts.{AreFactsOf};
-    ghost use Rattle.response_rules.specs.Reads.{HasRead, CanFinish, IsVerdict, head_of, is_script_dead};
+    ghost use Rattle.response_rules.specs.Reads.{HasRead, CanFinish, IsVerdict, case_of, is_script_dead};
 
     /// A decider for a response: the rules that judge it, its status and fields, the state of the media resource that the
     /// request is for, whether the request is opaque, and how many bytes of a body are read for a script. The
@@ -88,7 +88,7 @@ impl Decider {
         requires fields { AreOfHead fields.now }
         requires room { length fields.now.head.now ≤ scratch.old }
         ensures reads { (essence : Option (List ℕ × List ℕ)) → HasEssence (pairs_in fields.now) essence
-            → HasRead result (head_of policy state opaque status (pairs_in fields.now) limit essence) [] }
+            → HasRead result (case_of policy state opaque status (pairs_in fields.now) limit essence) [] }
         ensures one { (essence : Option (List ℕ × List ℕ)) × HasEssence (pairs_in fields.now) essence }
         ensures kept { scratch.new ≡ scratch.old }
     {
@@ -99,7 +99,7 @@ impl Decider {
 
     /// A decider for a response with these facts.
     pub fn of(facts: Facts) -> Decider
-        ensures { (h : Head) → AreFactsOf facts h → HasRead result h [] }
+        ensures { (h : Case) → AreFactsOf facts h → HasRead result h [] }
     {
         let mut decider = Decider::idle();
         decider.begin(facts);
@@ -108,7 +108,7 @@ impl Decider {
 
     /// A decider for no response: it takes only `begin`.
     pub fn idle() -> Decider
-        ensures { (h : Head) (m : List ℕ) → HasRead result h m → ⊥ }
+        ensures { (h : Case) (m : List ℕ) → HasRead result h m → ⊥ }
     {
         Decider {
             settled: None,
@@ -123,7 +123,7 @@ impl Decider {
     /// Begins a response with these facts, in the place of any other. The decider isn't moved, and what only
     /// texts need isn't touched: so one decider may serve many responses, and each short one costs little.
     pub fn begin(&mut self, facts: Facts)
-        ensures { (h : Head) → AreFactsOf facts h → HasRead self.new h [] }
+        ensures { (h : Case) → AreFactsOf facts h → HasRead self.new h [] }
     {
         self.settled = rule_of_head(&facts);
         self.window.clear();
@@ -135,9 +135,9 @@ impl Decider {
     /// Reads the next piece of the body, and tells how far the judgement is. Once nothing can allow the response, it stays
     /// so.
     pub fn feed(&mut self, piece: &[u8]) -> Progress
-        ensures reads { (h : Head) (m : List ℕ) → HasRead self.old h m → HasRead self.new h (m ++ piece.now) }
-        ensures gives { (h : Head) (m : List ℕ) → HasRead self.old h m → result ≡ progress_of (is_sent h (m ++ piece.now)) }
-        ensures hopeless { (h : Head) (m : List ℕ) → HasRead self.old h m
+        ensures reads { (h : Case) (m : List ℕ) → HasRead self.old h m → HasRead self.new h (m ++ piece.now) }
+        ensures gives { (h : Case) (m : List ℕ) → HasRead self.old h m → result ≡ progress_of (is_sent h (m ++ piece.now)) }
+        ensures hopeless { (h : Case) (m : List ℕ) → HasRead self.old h m
             → is_hopeless h m (is_script_dead self.old) ≡ true
             → is_hopeless h (m ++ piece.now) (is_script_dead self.new) ≡ true }
     {
@@ -153,7 +153,7 @@ impl Decider {
 
     /// How far the judgement is: `Allowed` exactly where a rule that allows is known for good.
     pub fn progress(&self) -> Progress
-        ensures { (h : Head) (m : List ℕ) → HasRead self.now h m → result ≡ progress_of (is_sent h m) }
+        ensures { (h : Case) (m : List ℕ) → HasRead self.now h m → result ≡ progress_of (is_sent h m) }
     {
         progress_by(is_allowed(self.settled))
     }
@@ -161,7 +161,7 @@ impl Decider {
     /// Whether the body is read as text: its window is full, and neither the head nor the window
     /// decides. The script test has read it then, unless it is longer than the limit.
     pub fn in_text(&self) -> bool
-        ensures { (h : Head) (m : List ℕ) → HasRead self.now h m → result ≡ is_in_text h m }
+        ensures { (h : Case) (m : List ℕ) → HasRead self.now h m → result ≡ is_in_text h m }
     {
         self.window.is_full() && self.settled.is_none()
     }
@@ -169,9 +169,9 @@ impl Decider {
     /// Whether nothing can allow the response any more, however its body goes on: a rule of the head or the window that
     /// blocks is known for good, or the body is read as text and is longer than the limit or the script test is dead.
     pub fn is_hopeless(&self) -> bool
-        ensures exact { (h : Head) (m : List ℕ) → HasRead self.now h m
+        ensures exact { (h : Case) (m : List ℕ) → HasRead self.now h m
             → result ≡ is_hopeless h m (is_script_dead self.now) }
-        ensures never { (h : Head) (m more : List ℕ) → HasRead self.now h m → IsTrue result
+        ensures never { (h : Case) (m more : List ℕ) → HasRead self.now h m → IsTrue result
             → is_allowing (rule_of h (m ++ more)) ≡ false }
     {
         is_blocked(self.settled) | (self.in_text() & (self.count.over | self.text.is_dead()))
@@ -180,8 +180,8 @@ impl Decider {
     /// The verdict on the response, where its body ends here. It may be asked once.
     pub fn finish(&mut self) -> Verdict
         requires { CanFinish self.old }
-        ensures verdict { (h : Head) (m : List ℕ) → HasRead self.old h m → IsVerdict h m result }
-        ensures over { (h : Head) (m : List ℕ) → HasRead self.new h m → ⊥ }
+        ensures verdict { (h : Case) (m : List ℕ) → HasRead self.old h m → IsVerdict h m result }
+        ensures over { (h : Case) (m : List ℕ) → HasRead self.new h m → ⊥ }
     {
         let before = self.facts.state;
         let rule = self.rule();
@@ -197,7 +197,7 @@ impl Decider {
 impl Decider {
     ghost use Rattle.std.specs.Prelude.{Bool, Some, None, true, false};
     ghost use Rattle.std.specs.Option.{option_or};
-    ghost use Rattle.response_rules.specs.Heads.{Head};
+    ghost use Rattle.response_rules.specs.Heads.{Case};
     ghost use Rattle.response_rules.specs.Tables.{early_rule, rule_of};
     ghost use Rattle.response_rules.specs.Settled.{is_full, rule_in_window};
     ghost use Rattle.response_rules.specs.Facts.{facts_of};
@@ -205,8 +205,8 @@ impl Decider {
 
     /// Reads a piece of a body whose window is full. One that is over the limit isn't read as text any more.
     fn read_on(&mut self, piece: &[u8], over: bool)
-        ensures stands { (h : Head) (m : List ℕ) → is_full m ≡ true → Stands self.old h m → Stands self.new h (m ++ piece.now) }
-        ensures text { (h : Head) (m : List ℕ) → is_full m ≡ true → Stands self.old h m
+        ensures stands { (h : Case) (m : List ℕ) → is_full m ≡ true → Stands self.old h m → Stands self.new h (m ++ piece.now) }
+        ensures text { (h : Case) (m : List ℕ) → is_full m ≡ true → Stands self.old h m
             → TextStands self.old h m over → TextStands self.new h (m ++ piece.now) over }
         ensures dead { is_script_dead self.old ≡ true → is_script_dead self.new ≡ true }
     {
@@ -217,8 +217,8 @@ impl Decider {
 
     /// Reads a piece of a body whose window isn't full yet.
     fn fill(&mut self, piece: &[u8], over: bool)
-        ensures stands { (h : Head) (m : List ℕ) → is_full m ≡ false → Stands self.old h m → Stands self.new h (m ++ piece.now) }
-        ensures text { (h : Head) (m : List ℕ) → is_full m ≡ false → Stands self.old h m
+        ensures stands { (h : Case) (m : List ℕ) → is_full m ≡ false → Stands self.old h m → Stands self.new h (m ++ piece.now) }
+        ensures text { (h : Case) (m : List ℕ) → is_full m ≡ false → Stands self.old h m
             → TextStands self.new h (m ++ piece.now) over }
     {
         let rest = fill(&mut self.window, piece);
@@ -234,7 +234,7 @@ impl Decider {
 
     /// The rule, where the body ends here.
     fn rule(&mut self) -> Rule
-        ensures { (h : Head) (m : List ℕ) → HasRead self.old h m → result ≡ rule_of h m }
+        ensures { (h : Case) (m : List ℕ) → HasRead self.old h m → result ≡ rule_of h m }
     {
         match self.early() {
             Some(rule) => rule,
@@ -244,7 +244,7 @@ impl Decider {
 
     /// The rule of the head or the window that decides if the body ends here, if one does.
     fn early(&self) -> Option<Rule>
-        ensures { (h : Head) (m : List ℕ) → HasRead self.now h m → result ≡ early_rule h m }
+        ensures { (h : Case) (m : List ℕ) → HasRead self.now h m → result ≡ early_rule h m }
     {
         if self.window.is_full() {
             self.settled
@@ -255,7 +255,7 @@ impl Decider {
 
     /// The rule of the end, where none of the head or the window decides.
     fn late(&mut self) -> Rule
-        ensures { (h : Head) (m : List ℕ) → HasRead self.old h m → early_rule h m ≡ None → result ≡ rule_of h m }
+        ensures { (h : Case) (m : List ℕ) → HasRead self.old h m → early_rule h m ≡ None → result ≡ rule_of h m }
     {
         if self.count.over {
             return Rule::BodyLimit;
@@ -270,7 +270,7 @@ impl Decider {
     /// The rule that is known for good, and else the first of the window that holds, where no more bytes come. The
     /// window is looked at only where it is asked for.
     fn judged(&self) -> Option<Rule>
-        ensures { (h : Head) → self.now.facts ≡ facts_of h
+        ensures { (h : Case) → self.now.facts ≡ facts_of h
             → result ≡ option_or self.now.settled (rule_in_window h self.now.window.items) }
     {
         match self.settled {

@@ -36,7 +36,7 @@ impl Facts {
     ghost use Rattle.std.specs.Prelude.{ℕ, List, Option};
     ghost use Rattle.response_rules.specs.Heads.{HasEssence};
     ghost use Rattle.response_rules.specs.Facts.{AreFactsOf};
-    ghost use Rattle.response_rules.specs.Reads.{head_of};
+    ghost use Rattle.response_rules.specs.Reads.{case_of};
 
     /// The facts of a response: the rules that judge it, the state of the media resource that the request is for,
     /// whether the request is opaque, the status and fields of its head, and how many bytes of a body are read for a script.
@@ -53,7 +53,7 @@ impl Facts {
         requires fields { AreOfHead fields.now }
         requires room { length fields.now.head.now ≤ scratch.old }
         ensures facts { (essence : Option (List ℕ × List ℕ)) → HasEssence (pairs_in fields.now) essence
-            → AreFactsOf result (head_of policy state opaque status (pairs_in fields.now) limit essence) }
+            → AreFactsOf result (case_of policy state opaque status (pairs_in fields.now) limit essence) }
         ensures one { (essence : Option (List ℕ × List ℕ)) × HasEssence (pairs_in fields.now) essence }
         ensures kept { scratch.new ≡ scratch.old }
     {

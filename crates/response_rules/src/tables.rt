@@ -1,7 +1,7 @@
 //! The tables of the rules.
 ghost use Rattle.std.specs.Prelude.{◌≡◌, ◌&&◌};
 ghost use Rattle.corb_sniffers.specs.Values as value;
-ghost use Rattle.response_rules.specs.Heads.{Head, is_na, is_initial, is_subsequent};
+ghost use Rattle.response_rules.specs.Heads.{Case, is_na, is_initial, is_subsequent};
 ghost use Rattle.response_rules.specs.Tables.{first_rule, orb_head_rows, orb_window_rows, corb_head_rows, corb_window_rows};
 ghost use Rattle.response_rules.specs.Settled.{head_rule_of, rule_in_window};
 ghost use Rattle.response_rules.specs.Facts.{facts_of};
@@ -15,7 +15,7 @@ use signatures::{image_type, media_type};
 
 /// The first rule of the head that holds.
 pub(crate) fn rule_of_head(facts: &Facts) -> Option<Rule>
-    ensures { (h : Head) → facts.now ≡ facts_of h → result ≡ head_rule_of h }
+    ensures { (h : Case) → facts.now ≡ facts_of h → result ≡ head_rule_of h }
 {
     match facts.policy {
         Policy::Orb => orb_rule_of_head(facts),
@@ -25,7 +25,7 @@ pub(crate) fn rule_of_head(facts: &Facts) -> Option<Rule>
 
 /// The first rule of the window that holds.
 pub(crate) fn rule_of_window(facts: &Facts, window: &[u8]) -> Option<Rule>
-    ensures { (h : Head) → facts.now ≡ facts_of h → result ≡ rule_in_window h window.now }
+    ensures { (h : Case) → facts.now ≡ facts_of h → result ≡ rule_in_window h window.now }
 {
     match facts.policy {
         Policy::Orb => orb_rule_of_window(facts, window),
@@ -35,7 +35,7 @@ pub(crate) fn rule_of_window(facts: &Facts, window: &[u8]) -> Option<Rule>
 
 /// The first rule of Opaque Response Blocking that the head decides.
 fn orb_rule_of_head(facts: &Facts) -> Option<Rule>
-    ensures { (h : Head) → facts.now ≡ facts_of h → result ≡ first_rule (orb_head_rows h) }
+    ensures { (h : Case) → facts.now ≡ facts_of h → result ≡ first_rule (orb_head_rows h) }
 {
     let groups = facts.groups;
     let partial = facts.status == 206;
@@ -56,7 +56,7 @@ fn orb_rule_of_head(facts: &Facts) -> Option<Rule>
 
 /// The first that the window decides.
 fn orb_rule_of_window(facts: &Facts, window: &[u8]) -> Option<Rule>
-    ensures { (h : Head) → facts.now ≡ facts_of h → result ≡ first_rule (orb_window_rows h window.now) }
+    ensures { (h : Case) → facts.now ≡ facts_of h → result ≡ first_rule (orb_window_rows h window.now) }
 {
     let is_media = media_type(window).is_some();
     let status = facts.status;
@@ -81,7 +81,7 @@ fn orb_rule_of_window(facts: &Facts, window: &[u8]) -> Option<Rule>
 
 /// The first rule of Cross-Origin Read Blocking that the head decides.
 fn corb_rule_of_head(facts: &Facts) -> Option<Rule>
-    ensures { (h : Head) → facts.now ≡ facts_of h → result ≡ first_rule (corb_head_rows h) }
+    ensures { (h : Case) → facts.now ≡ facts_of h → result ≡ first_rule (corb_head_rows h) }
 {
     let groups = facts.groups;
     let guarded = groups.blocklisted | groups.plain_text;
@@ -97,7 +97,7 @@ fn corb_rule_of_head(facts: &Facts) -> Option<Rule>
 
 /// The first that the window decides.
 fn corb_rule_of_window(facts: &Facts, window: &[u8]) -> Option<Rule>
-    ensures { (h : Head) → facts.now ≡ facts_of h → result ≡ first_rule (corb_window_rows h window.now) }
+    ensures { (h : Case) → facts.now ≡ facts_of h → result ≡ first_rule (corb_window_rows h window.now) }
 {
     let groups = facts.groups;
     let plain = groups.plain_text;

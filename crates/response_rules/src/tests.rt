@@ -1,6 +1,6 @@
 //! Responses through a [`Decider`], in pieces, with what the tables of the rules owe each.
 ghost use Rattle.std.specs.Prelude.{◌≡◌, ◌≤◌, ◌++◌, ℕ, List};
-ghost use Rattle.response_rules.specs.Heads.{Head};
+ghost use Rattle.response_rules.specs.Heads.{Case};
 ghost use Rattle.response_rules.specs.Reads.{HasRead};
 
 use crate::{Decider, Policy, Progress, Rule, Verdict};
@@ -293,7 +293,7 @@ fn bytes_of(alloc: Global, body: Body) -> Result<Vec<u8>, Fail> {
 }
 
 /// A head with a line `name: value` for each field, and where the fields stand in it.
-fn head_of(alloc: Global, fields: &[Field]) -> Result<(Vec<u8>, Vec<FieldSpan>), Fail> {
+fn case_of(alloc: Global, fields: &[Field]) -> Result<(Vec<u8>, Vec<FieldSpan>), Fail> {
     let mut head = Vec::new(alloc);
     let mut spans = Vec::new(alloc);
     for (name, value) in fields {
@@ -318,7 +318,7 @@ fn head_of(alloc: Global, fields: &[Field]) -> Result<(Vec<u8>, Vec<FieldSpan>),
 /// Feeds the body in pieces of that size.
 fn feed_in_pieces(decider: &mut Decider, body: &[u8], size: usize)
     requires { 1 ≤ size }
-    ensures { (h : Head) (m : List ℕ) → HasRead decider.old h m → HasRead decider.new h (m ++ body.now) }
+    ensures { (h : Case) (m : List ℕ) → HasRead decider.old h m → HasRead decider.new h (m ++ body.now) }
 {
     let mut rest = body;
     'pieces: while !rest.is_empty() {
@@ -340,7 +340,7 @@ fn judge(
     requires { 1 ≤ size }
 {
     let (state, status, fields, body, _) = *row;
-    let (head, spans) = head_of(alloc, fields)?;
+    let (head, spans) = case_of(alloc, fields)?;
     let fields = Fields::of(&head, &spans).ok_or("fields of the head")?;
     let mut scratch = Scratch::open(alloc, head.len())?;
     let body = bytes_of(alloc, body)?;
@@ -460,7 +460,7 @@ const STEPS: [(Field, [Step; 2]); 8] = [
 #[test]
 fn judgement_goes_on_with_the_body(rt: HostRuntime) -> Result<(), Fail> {
     for (field, steps) in STEPS {
-        let (head, spans) = head_of(rt.alloc(), &[field])?;
+        let (head, spans) = case_of(rt.alloc(), &[field])?;
         let fields = Fields::of(&head, &spans).ok_or("fields of the head")?;
         let mut scratch = Scratch::open(rt.alloc(), head.len())?;
         let mut decider = Decider::new(Policy::Orb, Na, true, 200, &fields, &mut scratch, 2048);

@@ -19,11 +19,11 @@ some_left start left is sound = subst IsSound is sound
 
 pub returns-then-rest-eq0-clause-taken : goal.returns-then-rest-eq0-clause-taken
 returns-then-rest-eq0-clause-taken c =
-    named c.args.start DataCr c.in-Data.left c.args.piece.now c.front_of-body.result.now c.in-Data.is (ap with_left c.if-rest-eq0.true)
-    (takes c.in-Data.left c.args.piece.now c.front_of-body.result.now (some_left c.args.start c.in-Data.left c.in-Data.is c.requires) c.front_of-body.ensures)
+    named c.args.start DataCr c.in-Data.left c.args.piece.now c.prefix_of-body.result.now c.in-Data.is (ap with_left c.if-rest-eq0.true)
+    (takes c.in-Data.left c.args.piece.now c.prefix_of-body.result.now (some_left c.args.start c.in-Data.left c.in-Data.is c.requires) c.prefix_of-body.ensures)
 
 pub returns-else-rest-eq0-clause-taken : goal.returns-else-rest-eq0-clause-taken
 returns-else-rest-eq0-clause-taken c =
-    named c.args.start (Data (c.in-Data.left - length c.front_of-body.result.now)) c.in-Data.left c.args.piece.now c.front_of-body.result.now c.in-Data.is
-    (with_left_some (c.in-Data.left - length c.front_of-body.result.now) (omega arith))
-    (takes c.in-Data.left c.args.piece.now c.front_of-body.result.now (some_left c.args.start c.in-Data.left c.in-Data.is c.requires) c.front_of-body.ensures)
+    named c.args.start (Data (c.in-Data.left - length c.prefix_of-body.result.now)) c.in-Data.left c.args.piece.now c.prefix_of-body.result.now c.in-Data.is
+    (with_left_some (c.in-Data.left - length c.prefix_of-body.result.now) (omega arith))
+    (takes c.in-Data.left c.args.piece.now c.prefix_of-body.result.now (some_left c.args.start c.in-Data.left c.in-Data.is c.requires) c.prefix_of-body.ensures)

@@ -11,11 +11,11 @@ returns-in_err-put-clause-delivers g c = λ x m r.
     let err = err_from_is_err_and c.from_residual.result c.from_residual.ensures.1 in
     rw err.1 (Delivers-fault _ _ (output_so_far x m) _ (whole_output x m) c.in_err-put.ensures.puts.bytes
     (ended-is c.args.self.now.phase c.args.self.now _ x m c.finish-verdict.result r.stands r.decides
-    (c.finish-verdict.ensures.verdict x.head m r.decides) refl refl refl))
+    (c.finish-verdict.ensures.verdict x.judged m r.decides) refl refl refl))
 
 pub returns-clause-delivers : goal.returns-clause-delivers
 returns-clause-delivers g c = λ x m r.
-    let verdict = c.finish-verdict.ensures.verdict x.head m r.decides in
+    let verdict = c.finish-verdict.ensures.verdict x.judged m r.decides in
     Gives-of _ _ (output_so_far x m) _ _ c.in_ok-put.ensures.puts.bytes (
       ended-is c.args.self.now.phase c.args.self.now _ x m c.finish-verdict.result r.stands r.decides verdict refl refl refl,
       verdict,

@@ -10,9 +10,9 @@ pub returns-in-Dropping-clause-delivers : goal.returns-in-Dropping-clause-delive
 returns-in-Dropping-clause-delivers g c = λ x m r.
     let p = c.args.piece.now in
     let s = drops-of c.args.self.now x m c.in-Dropping.is r in
-    let over = c.read_on-judgement.ensures.hopeless x.head m r.decides s.over in
+    let over = c.read_on-judgement.ensures.hopeless x.judged m r.decides s.over in
     Gives-none _ (output_so_far x m) _ (g.met.O.Sink.told_agrees c.args.sink.now) (
-      so_far-unsent x m (hopeless-unsent x.head m _ s.over) ∙ sym (so_far-unsent x (m ++ p) (hopeless-unsent x.head (m ++ p) _ over)),
-      (reads-dropping _ x (m ++ p) r.limit (c.read_on-judgement.ensures.reads x.head m r.decides)
+      so_far-unsent x m (hopeless-unsent x.judged m _ s.over) ∙ sym (so_far-unsent x (m ++ p) (hopeless-unsent x.judged (m ++ p) _ over)),
+      (reads-dropping _ x (m ++ p) r.limit (c.read_on-judgement.ensures.reads x.judged m r.decides)
           c.in-Dropping.is (record { over = over })),
     )

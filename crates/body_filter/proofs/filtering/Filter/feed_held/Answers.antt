@@ -14,8 +14,8 @@ returns-in-Allowed-clause-delivers g c = λ x m r.
     let f = c.args.self.now in
     let p = c.args.piece.now in
     let s = holds-of f x m c.requires.holding r in
-    let sent : is_sent x.head (m ++ p) ≡ true =
-    judged-allowed _ _ (sym c.in-Allowed.is ∙ c.read_on.ensures.gives x.head m r.decides) in
+    let sent : is_sent x.judged (m ++ p) ≡ true =
+    judged-allowed _ _ (sym c.in-Allowed.is ∙ c.read_on.ensures.gives x.judged m r.decides) in
     let w = f.framer in
     let head = c.deref.result.now in
     let held = c.deref-in-Allowed.result.now in
@@ -25,7 +25,7 @@ returns-in-Allowed-clause-delivers g c = λ x m r.
     (c.deref-in-Allowed.ensures.value ∙ s.held) s.unsent sent)
     (on_ok-both c.idle_at_fault.result c.idle_at_fault.ensures.ok (rw c.idle_at_fault.ensures.same c.release-put.ensures.rest)
     (λ same rest.
-    reads-passing _ x (m ++ p) r.limit (c.read_on.ensures.reads x.head m r.decides) same
+    reads-passing _ x (m ++ p) r.limit (c.read_on.ensures.reads x.judged m r.decides) same
     (record {
       sent = sent;
       chunked = c.release-put.ensures.chunked ∙ s.chunked;
@@ -37,10 +37,10 @@ returns-in-Blocked-clause-delivers g c = λ x m r.
     let f = c.args.self.now in
     let p = c.args.piece.now in
     let s = holds-of f x m c.requires.holding r in
-    let judged = judged-blocked _ _ (sym c.in-Blocked.is ∙ c.read_on.ensures.gives x.head m r.decides) in
+    let judged = judged-blocked _ _ (sym c.in-Blocked.is ∙ c.read_on.ensures.gives x.judged m r.decides) in
     Gives-none _ (output_so_far x m) _ (g.met.O.Sink.told_agrees c.args.sink.now) (
       so_far-unsent x m s.unsent ∙ sym (so_far-unsent x (m ++ p) judged.0),
-      (reads-dropping _ x (m ++ p) r.limit (c.read_on.ensures.reads x.head m r.decides) refl
+      (reads-dropping _ x (m ++ p) r.limit (c.read_on.ensures.reads x.judged m r.decides) refl
           (record { over = judged.1 })),
     )
 
@@ -49,10 +49,10 @@ returns-in-Open-clause-delivers g c = λ x m r.
     let f = c.args.self.now in
     let p = c.args.piece.now in
     let s = holds-of f x m c.requires.holding r in
-    let judged = judged-open _ _ (sym c.in-Open.is ∙ c.read_on.ensures.gives x.head m r.decides) in
+    let judged = judged-open _ _ (sym c.in-Open.is ∙ c.read_on.ensures.gives x.judged m r.decides) in
     Gives-none _ (output_so_far x m) _ (g.met.O.Sink.told_agrees c.args.sink.now) (
       so_far-unsent x m s.unsent ∙ sym (so_far-unsent x (m ++ p) judged.0),
-      (reads-holding _ x (m ++ p) r.limit (c.read_on.ensures.reads x.head m r.decides) c.requires.holding
+      (reads-holding _ x (m ++ p) r.limit (c.read_on.ensures.reads x.judged m r.decides) c.requires.holding
           (record {
             unsent = judged.0;
             hopeful = judged.1;
@@ -70,8 +70,8 @@ append-requires g c =
     let p = c.args.piece.now in
     let r = c.requires.can in
     let s = holds-of f r.x r.m c.requires.holding r.reads in
-    let judged = judged-open _ _ (sym c.in-Open.is ∙ c.read_on.ensures.gives r.x.head r.m r.reads.decides) in
-    let fits = held-fits r.x.head (r.m ++ p) _ (omega (arith, r.reads.limit)) judged.0 judged.1 in
+    let judged = judged-open _ _ (sym c.in-Open.is ∙ c.read_on.ensures.gives r.x.judged r.m r.reads.decides) in
+    let fits = held-fits r.x.judged (r.m ++ p) _ (omega (arith, r.reads.limit)) judged.0 judged.1 in
     omega (arith, fits, r.reads.limit, length-append r.m p, f.held.ok.0, ap length s.held)
 
 pub invariant_of-self-in-Open-clause-fits : goal.invariant_of-self-in-Open-clause-fits
@@ -80,6 +80,6 @@ invariant_of-self-in-Open-clause-fits g c =
     let p = c.args.piece.now in
     let r = c.requires.can in
     let s = holds-of f r.x r.m c.requires.holding r.reads in
-    let judged = judged-open _ _ (sym c.in-Open.is ∙ c.read_on.ensures.gives r.x.head r.m r.reads.decides) in
-    let fits = held-fits r.x.head (r.m ++ p) _ (omega (arith, r.reads.limit)) judged.0 judged.1 in
+    let judged = judged-open _ _ (sym c.in-Open.is ∙ c.read_on.ensures.gives r.x.judged r.m r.reads.decides) in
+    let fits = held-fits r.x.judged (r.m ++ p) _ (omega (arith, r.reads.limit)) judged.0 judged.1 in
     omega (arith, fits, r.reads.limit, length-append r.m p, c.append.new.text.ok.0, ap length c.append.ensures.items, ap length s.held, length-append f.held.items p)

@@ -13,13 +13,13 @@ returns-clause-delivers g c = λ x m r.
     let f = c.args.self.now in
     let p = c.args.piece.now in
     let s = passes-of f x m c.requires.sending r in
-    let sent : is_sent x.head (m ++ p) ≡ true = sent-longer x.head m p s.sent in
+    let sent : is_sent x.judged (m ++ p) ≡ true = sent-longer x.judged m p s.sent in
     Delivers-put _ _ c.idle_at_fault.result (output_so_far x m) _ (output_so_far x (m ++ p)) _
     (rw c.idle_at_fault.ensures.same c.put_piece-put.ensures.puts.bytes)
     (sending-is x m p (is_chunked_by f.framer) (kept_by f.framer) s.chunked s.rest s.sent sent)
     (on_ok-both c.idle_at_fault.result c.idle_at_fault.ensures.ok (rw c.idle_at_fault.ensures.same c.put_piece-put.ensures.rest)
     (λ same rest.
-    reads-passing _ x (m ++ p) r.limit (c.read_on-judgement.ensures.reads x.head m r.decides)
+    reads-passing _ x (m ++ p) r.limit (c.read_on-judgement.ensures.reads x.judged m r.decides)
     (same ∙ c.requires.sending)
     (record {
       sent = sent;

@@ -8,7 +8,7 @@ use Rattle.http_exchange.proofs.unframing.Unframer.feed.Goals as goal
 pub returns-in-Counted-clause-answers : goal.returns-in-Counted-clause-answers
 returns-in-Counted-clause-answers c = λ f m given h.
     let P : Reading → Type 0 = λ u. StandsAt u f m given in
-    counted_get c.in-Counted.left f m given c.args.piece.now c.front_of-body.result.now c.front_of-body.ensures
+    counted_get c.in-Counted.left f m given c.args.piece.now c.prefix_of-body.result.now c.prefix_of-body.ensures
     (subst P (sym c.self.view_is ∙ c.in-Counted.is) h.stands)
 
 pub returns-in-Rest-clause-answers : goal.returns-in-Rest-clause-answers
@@ -21,10 +21,10 @@ returns-in-Rest-clause-answers c = λ f m given h.
 pub returns-in-Chunks-clause-answers : goal.returns-in-Chunks-clause-answers
 returns-in-Chunks-clause-answers c = λ f m given h.
     let P : Reading → Type 0 = λ u. StandsAt u f m given in
-    chunks_answer c.in-Chunks.place c.take_chunks-behind.result.0 c.take_chunks-behind.result.1 f m given c.args.piece.now
-    c.take_chunks-behind.ensures.taken (subst P (sym c.self.view_is ∙ c.in-Chunks.is) h.stands)
+    chunks_answer c.in-Chunks.place c.take_chunks-after.result.0 c.take_chunks-after.result.1 f m given c.args.piece.now
+    c.take_chunks-after.ensures.taken (subst P (sym c.self.view_is ∙ c.in-Chunks.is) h.stands)
 
 pub returns-in-Chunks-clause-taken : goal.returns-in-Chunks-clause-taken
 returns-in-Chunks-clause-taken c =
-    chunks_taken c.in-Chunks.place c.take_chunks-behind.result.0 c.take_chunks-behind.result.1 c.args.piece.now
-    c.take_chunks-behind.ensures.taken
+    chunks_taken c.in-Chunks.place c.take_chunks-after.result.0 c.take_chunks-after.result.1 c.args.piece.now
+    c.take_chunks-after.ensures.taken

@@ -16,7 +16,7 @@ pub returns-in-Ok-clause-delivers : goal.returns-in-Ok-clause-delivers
 returns-in-Ok-clause-delivers g c = λ s x m works size.
     let it = for-explain c.args.self.now _ s c.in-Explains.is works.is_for in
     let reads = reads-explain c.args.self.now _ x m c.in-Explains.is works.reads in
-    let verdict = c.finish-verdict.ensures.verdict x.head m reads in
+    let verdict = c.finish-verdict.ensures.verdict x.judged m reads in
     let line = c.as_slice.result.now in
     let owed = line-written c.args.number c.args.size s x m c.finish-verdict.result line it verdict size
     (c.as_slice.ensures.value ∙ c.line.ensures) in
@@ -27,7 +27,7 @@ pub returns-in-Err-clause-delivers : goal.returns-in-Err-clause-delivers
 returns-in-Err-clause-delivers g c = λ s x m works size.
     let it = for-explain c.args.self.now _ s c.in-Explains.is works.is_for in
     let reads = reads-explain c.args.self.now _ x m c.in-Explains.is works.reads in
-    let verdict = c.finish-verdict.ensures.verdict x.head m reads in
+    let verdict = c.finish-verdict.ensures.verdict x.judged m reads in
     let line = c.as_slice.result.now in
     let owed = line-written c.args.number c.args.size s x m c.finish-verdict.result line it verdict size
     (c.as_slice.ensures.value ∙ c.line.ensures) in

@@ -20,5 +20,5 @@ returns-in-Explains-clause-delivers g c = λ s x m works.
     let reads = reads-explain c.args.self.now _ x m c.in-Explains.is works.reads in
     Gives-none _ (written_so_far s.job x m) _ (g.met.O.Sink.told_agrees c.args.sink.now) (
       so_far-explain s.job x m it ∙ sym (so_far-explain s.job x (m ++ c.args.body.now) it),
-      record { is_for = it; reads = c.feed-progress.ensures.reads x.head m reads },
+      record { is_for = it; reads = c.feed-progress.ensures.reads x.judged m reads },
     )

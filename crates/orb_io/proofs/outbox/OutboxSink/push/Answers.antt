@@ -6,10 +6,10 @@ use Rattle.orb_io.proofs.outbox.OutboxSink.push.Goals as goal
 pub returns-else-piece-room-clause-bytes : goal.returns-else-piece-room-clause-bytes
 returns-else-piece-room-clause-bytes c =
     let view : c.self.inside.bytes.items ≡ c.args.self.now.bytes = ap (λ (b : OutboxState). b.bytes) c.self.view_is in
-    let front = c.first_bytes.result.now in
+    let prefix = c.first_bytes.result.now in
     let bytes : c.append.new.text.items ≡ c.args.self.now.bytes ++ c.first_bytes.result.now =
     c.append.ensures.items ∙ ap (λ t. t ++ c.first_bytes.result.now) view in (
-      front,
+      prefix,
       (drop (16384 - c.len-room.result) c.args.piece.now, rw c.first_bytes.ensures.bytes (sym (take-append-drop _ c.args.piece.now))),
       record {
         bytes = bytes;
