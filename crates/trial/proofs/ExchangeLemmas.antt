@@ -1,0 +1,252 @@
+-- Each exchange of the self-test is one of a recording, after any exchanges whose ids are below 16.
+use Rattle.std.proofs.Common.{◌≡◌, ℕ, zero, suc, ◌+◌, ◌*◌, ◌<◌, ◌≤◌, false, List, [], ◌∷◌, ◌++◌, length, Option, Some, None, refl, sym, ap, ◌∙◌, subst, arith, append_assoc, length-append, codes}
+use Rattle.std.specs.List.{repeat}
+use Rattle.orb_bytes.specs.Ascii.{nul}
+use Rattle.media_state.specs.Table.{States, IsRefusedId}
+use Rattle.response_rules.specs.Tables.{rule_of}
+use Rattle.http_exchange.specs.HeadTexts.{head_limit}
+use Rattle.http_exchange.specs.Frames.{IsBodyPrefix, IsWhole}
+use Rattle.http_exchange.specs.declared.request.RequestHead.{RequestHead}
+use Rattle.http_exchange.specs.declared.frames.BodyFrame.{BodyFrame}
+use Rattle.http_exchange.specs.declared.frames.BodyFrame.TheVariants.{Length, Chunked}
+use Rattle.orb_engine.specs.declared.settings.Settings.{Settings}
+use Rattle.orb_engine.specs.Heads as heads
+use Rattle.orb_engine.specs.Heads.{RequestText, ResponseText, Heads, IsRequestHead, IsRequestIn, AreHeads, judged_by}
+use Rattle.orb_engine.specs.Recording.{Exchange, IsExchange, spell_exchange, table_after, state_after}
+use Rattle.trial.specs.declared.kinds.Kind.{Kind}
+use Rattle.trial.specs.declared.kinds.Kind.TheVariants.{Javascript, Nosniff, Png, Script, Json, Text, Jpeg, Media}
+use Rattle.trial.specs.Texts.{head_text}
+use Rattle.trial.specs.Trials.{request_line, request_of, status_line, fields_of, body_of, sent_of, exchange_text}
+use Rattle.trial.proofs.Requests.{plain_asks, media_asks, plain_is_request, media_is_request}
+use Rattle.trial.proofs.Responses as responses
+use Rattle.trial.proofs.Responses.{StatusLine, line_text, ok, partial, Says, text_of, IsResponseHead-text}
+use Rattle.trial.proofs.ChunkLemmas.{sent_is_whole, sent_is_prefix, sent_length}
+use Rattle.trial.proofs.TableLemmas.{IsSmall, small_has_room, keeps_is_small}
+
+-- ---- the parts of each kind
+
+abbrev asks_of : Kind → (id : ℕ) → RequestHead
+asks_of Javascript id = plain_asks
+asks_of Nosniff id = plain_asks
+asks_of Png id = plain_asks
+asks_of Script id = plain_asks
+asks_of Json id = plain_asks
+asks_of Text id = plain_asks
+asks_of Jpeg id = plain_asks
+asks_of Media id = media_asks id
+
+abbrev line_for : Kind → StatusLine
+line_for Javascript = ok
+line_for Nosniff = ok
+line_for Png = ok
+line_for Script = ok
+line_for Json = ok
+line_for Text = ok
+line_for Jpeg = ok
+line_for Media = partial
+
+abbrev essence_of : Kind → Option (List ℕ × List ℕ)
+essence_of Javascript = Some (codes "text", codes "javascript")
+essence_of Nosniff = Some (codes "text", codes "html")
+essence_of Png = None
+essence_of Script = Some (codes "application", codes "octet-stream")
+essence_of Json = Some (codes "application", codes "octet-stream")
+essence_of Text = Some (codes "text", codes "plain")
+essence_of Jpeg = Some (codes "image", codes "jpeg")
+essence_of Media = Some (codes "video", codes "ogg")
+
+abbrev frame_for : Kind → (n : ℕ) → BodyFrame
+frame_for Javascript n = Length n
+frame_for Nosniff n = Length n
+frame_for Png n = Length n
+frame_for Script n = Length n
+frame_for Json n = Length n
+frame_for Text n = Length n
+frame_for Media n = Length n
+frame_for Jpeg n = Chunked
+
+abbrev request_for : Kind → (id : ℕ) → RequestText
+request_for kind id = record { bytes = head_text request_line (request_of kind id); asks = asks_of kind id }
+
+abbrev response_for : Kind → (n : ℕ) → ResponseText
+response_for kind n = text_of (line_for kind) (fields_of kind n) (essence_of kind) (frame_for kind n)
+
+abbrev heads_for : Kind → (m id : ℕ) → Heads
+heads_for kind m id = record { request = request_for kind id; response = response_for kind (length (body_of kind m)) }
+
+-- the exchange, where a recording has these media states
+abbrev pub exchange_for : Settings → States → Kind → (m id : ℕ) → Exchange
+exchange_for s table kind m id = record {
+  heads = heads_for kind m id;
+  sent = sent_of kind (body_of kind m);
+  body = body_of kind m;
+  rule = rule_of (judged_by s table (heads_for kind m id)) (body_of kind m);
+}
+
+-- ---- lengths
+
+length-repeat : (count : ℕ) (unit : List ℕ) → length (repeat count unit) ≡ count * length unit
+length-repeat zero unit = omega arith
+length-repeat (suc count) unit =
+    length-append unit (repeat count unit) ∙ ap (λ n. length unit + n) (length-repeat count unit) ∙ omega arith
+
+pub body_length : (kind : Kind) (m : ℕ) → m < 1009 → length (body_of kind m) ≤ 8072
+unfolding body_of
+body_length Javascript m small = omega (arith, length-repeat (m + 1) (codes "x;"))
+body_length Nosniff m small = omega (arith, length-repeat (m + 1) (codes "a"))
+body_length Png m small = omega (arith, length-repeat m (nul ∷ []))
+body_length Script m small = omega (arith, length-repeat (m + 1) (codes "var a=0;"))
+body_length Json m small = omega (arith, length-append (repeat m (codes ",0")) (codes "]"), length-repeat m (codes ",0"))
+body_length Text m small = omega (arith, length-repeat (m + 1) (codes "a b "))
+body_length Jpeg m small = omega (arith, length-repeat m (nul ∷ []))
+body_length Media m small = omega (arith, length-repeat m (nul ∷ []))
+
+jpeg_length : (m : ℕ) → m < 1009 → length (body_of Jpeg m) < 4096
+unfolding body_of
+jpeg_length m small = omega (arith, length-repeat m (nul ∷ []))
+
+sent_fits : (kind : Kind) (m : ℕ) → m < 1009 → length (sent_of kind (body_of kind m)) ≤ 20000
+sent_fits Javascript m small = omega (arith, body_length Javascript m small)
+sent_fits Nosniff m small = omega (arith, body_length Nosniff m small)
+sent_fits Png m small = omega (arith, body_length Png m small)
+sent_fits Script m small = omega (arith, body_length Script m small)
+sent_fits Json m small = omega (arith, body_length Json m small)
+sent_fits Text m small = omega (arith, body_length Text m small)
+sent_fits Media m small = omega (arith, body_length Media m small)
+sent_fits Jpeg m small = sent_length (body_of Jpeg m) (jpeg_length m small)
+
+-- ---- heads
+
+is_request : (kind : Kind) (id : ℕ) → id < 16 → IsRequestHead (request_for kind id)
+is_request Javascript id small = plain_is_request
+is_request Nosniff id small = plain_is_request
+is_request Png id small = plain_is_request
+is_request Script id small = plain_is_request
+is_request Json id small = plain_is_request
+is_request Text id small = plain_is_request
+is_request Jpeg id small = plain_is_request
+is_request Media id small = media_is_request id small
+
+has_room : (kind : Kind) (id : ℕ) (table : States) → IsSmall table → IsRefusedId table (heads.id_of (asks_of kind id)) → ⊥
+has_room Javascript id table small full = full
+has_room Nosniff id table small full = full
+has_room Png id table small full = full
+has_room Script id table small full = full
+has_room Json id table small full = full
+has_room Text id table small full = full
+has_room Jpeg id table small full = full
+has_room Media id table small full = small_has_room table id small full
+
+says : (kind : Kind) (n : ℕ) → n < 10000 → Says (line_for kind) (fields_of kind n) (essence_of kind) (frame_for kind n)
+says Javascript n small = responses.javascript_says n small
+says Nosniff n small = responses.nosniff_says n small
+says Png n small = responses.png_says n small
+says Script n small = responses.script_says n small
+says Json n small = responses.json_says n small
+says Text n small = responses.text_says n small
+says Jpeg n small = responses.jpeg_says n small
+says Media n small = responses.media_says n small
+
+no_head : (kind : Kind) (id : ℕ) → (asks_of kind id).is_head ≡ false
+no_head Javascript id = refl
+no_head Nosniff id = refl
+no_head Png id = refl
+no_head Script id = refl
+no_head Json id = refl
+no_head Text id = refl
+no_head Jpeg id = refl
+no_head Media id = refl
+
+are_heads : (kind : Kind) (m id : ℕ) (table : States) → m < 1009 → id < 16 → IsSmall table → AreHeads table (heads_for kind m id)
+are_heads kind m id table short low small =
+    let n = length (body_of kind m) in
+    let says_so = says kind n (omega (arith, body_length kind m short)) in record {
+      request = record { head = is_request kind id low; room = has_room kind id table small };
+      response = subst (λ to_head. heads.IsResponseHead to_head (response_for kind n)) (sym (no_head kind id))
+          (IsResponseHead-text (line_for kind) (fields_of kind n) (essence_of kind) (frame_for kind n) says_so);
+    }
+
+-- ---- bodies
+
+is_prefix : (kind : Kind) (body : List ℕ) → IsBodyPrefix (frame_for kind (length body)) (sent_of kind body) body
+is_prefix Javascript body = (omega arith, refl)
+is_prefix Nosniff body = (omega arith, refl)
+is_prefix Png body = (omega arith, refl)
+is_prefix Script body = (omega arith, refl)
+is_prefix Json body = (omega arith, refl)
+is_prefix Text body = (omega arith, refl)
+is_prefix Media body = (omega arith, refl)
+is_prefix Jpeg body = sent_is_prefix body
+
+is_whole : (kind : Kind) (body : List ℕ) → IsWhole (frame_for kind (length body)) (sent_of kind body)
+is_whole Javascript body = refl
+is_whole Nosniff body = refl
+is_whole Png body = refl
+is_whole Script body = refl
+is_whole Json body = refl
+is_whole Text body = refl
+is_whole Media body = refl
+is_whole Jpeg body = sent_is_whole body
+
+-- ---- the exchange
+
+pub is_exchange : (s : Settings) (table : States) (kind : Kind) (m id : ℕ) → m < 1009 → id < 16 → IsSmall table
+    → IsExchange s table (exchange_for s table kind m id)
+is_exchange s table kind m id short low small = record {
+  heads = are_heads kind m id table short low small;
+  prefix = is_prefix kind (body_of kind m);
+  whole = is_whole kind (body_of kind m);
+  decided = refl;
+}
+
+same_line : (kind : Kind) → status_line kind ≡ line_text (line_for kind)
+same_line Javascript = refl
+same_line Nosniff = refl
+same_line Png = refl
+same_line Script = refl
+same_line Json = refl
+same_line Text = refl
+same_line Jpeg = refl
+same_line Media = refl
+
+pub spells : (s : Settings) (table : States) (kind : Kind) (m id : ℕ) (rest : List ℕ)
+    → exchange_text kind m id ++ rest ≡ spell_exchange (exchange_for s table kind m id) rest
+unfolding exchange_text
+spells s table kind m id rest =
+    let request = head_text request_line (request_of kind id) in
+    let fields = fields_of kind (length (body_of kind m)) in
+    let sent = sent_of kind (body_of kind m) in
+    append_assoc request (head_text (status_line kind) fields ++ sent) rest
+    ∙ ap (λ l. request ++ l) (append_assoc (head_text (status_line kind) fields) sent rest)
+    ∙ ap (λ line. request ++ (head_text line fields ++ (sent ++ rest))) (same_line kind)
+
+pub table_stays_small : (s : Settings) (table : States) (kind : Kind) (m id : ℕ) → id < 16 → IsSmall table
+    → IsSmall (table_after table (exchange_for s table kind m id))
+table_stays_small s table Javascript m id low small = small
+table_stays_small s table Nosniff m id low small = small
+table_stays_small s table Png m id low small = small
+table_stays_small s table Script m id low small = small
+table_stays_small s table Json m id low small = small
+table_stays_small s table Text m id low small = small
+table_stays_small s table Jpeg m id low small = small
+table_stays_small s table Media m id low small =
+    keeps_is_small table id (state_after table (exchange_for s table Media m id)) low small
+
+pub text_fits : (kind : Kind) (m id : ℕ) → m < 1009 → id < 16 → length (exchange_text kind m id) ≤ 200000
+unfolding exchange_text head_limit
+text_fits kind m id short low =
+    let request = head_text request_line (request_of kind id) in
+    let n = length (body_of kind m) in
+    let response = head_text (status_line kind) (fields_of kind n) in
+    let sent = sent_of kind (body_of kind m) in
+    let fits : length response ≤ 65536 =
+    subst (λ line. length (head_text line (fields_of kind n)) ≤ 65536) (sym (same_line kind))
+    (says kind n (omega (arith, body_length kind m short))).fits in
+    omega (
+      arith,
+      length-append request (response ++ sent),
+      length-append response sent,
+      (is_request kind id low).text.fits,
+      fits,
+      sent_fits kind m short,
+    )
