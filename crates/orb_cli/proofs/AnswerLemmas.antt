@@ -23,7 +23,7 @@ EndsAt-ends e s read ended P stop wrote h is =
     record { recording = h.recording; cut = h.cut; stops = is; output = h.gave }
 
 -- what begins the output of the first bytes begins that of all of them
-within_all : (s : Settings) (read seen unseen wrote : List ℕ) (ended : Bool) (a r : Recording)
+pub within_all : (s : Settings) (read seen unseen wrote : List ℕ) (ended : Bool) (a r : Recording)
     → read ≡ seen ++ unseen → (ended ≡ true → unseen ≡ []) → IsRecording s seen a → IsPrefix wrote (output_of s a ended)
     → IsRecording s read r → IsPrefix wrote (output_of s r ended)
 within_all s read seen unseen wrote false a r are all x within y =

@@ -1,3 +1,4 @@
 pub mod AnswerLemmas
 pub mod CompleteLemmas
 pub mod WordLemmas
+pub mod TrialLemmas

@@ -4,3 +4,4 @@ pub mod Outcomes
 pub mod Answer
 pub mod Complete
 pub mod Report
+pub mod Trial

@@ -21,7 +21,7 @@ never_done offset (cut.InRequestHead []) h = cc
 never_done offset (cut.InRequestHead (b ∷ head)) h = cc
 never_done offset _ h = cc
 
-open_not_done : (a : Recording) → stop_of a false ≡ ends.Done → ⊥
+pub open_not_done : (a : Recording) → stop_of a false ≡ ends.Done → ⊥
 unfolding stop_of
 open_not_done a h = never_done (length (spell_exchanges a.exchanges [])) a.tail h
 
@@ -49,7 +49,7 @@ whole_is_not_endless s bytes read rest r whole lost more =
     omega (arith, length-append read rest)
 
 -- an end that is not open is that of the whole recording
-ends_all : (e : Engine) (s : Settings) (bytes read rest : List ℕ) (r : Recording) (ended : Bool) (P : End → Type 0) (given : List ℕ)
+pub ends_all : (e : Engine) (s : Settings) (bytes read rest : List ℕ) (r : Recording) (ended : Bool) (P : End → Type 0) (given : List ℕ)
     → IsWholeRecording s bytes r → bytes ≡ read ++ rest → (ended ≡ true → rest ≡ [])
     → (h : Ends e s read ended P given) → (P ends.Open → ⊥) → IsAll s r h.recording ended rest
 ends_all e s bytes read rest r ended P given whole lost all h closed =
@@ -57,7 +57,7 @@ ends_all e s bytes read rest r ended P given whole lost all h closed =
     (λ o. closed (subst P o h.stop))
 
 -- nor is it another end
-ends_no_other : (e : Engine) (s : Settings) (bytes read rest : List ℕ) (r : Recording) (ended : Bool) (P : End → Type 0) (given : List ℕ)
+pub ends_no_other : (e : Engine) (s : Settings) (bytes read rest : List ℕ) (r : Recording) (ended : Bool) (P : End → Type 0) (given : List ℕ)
     → IsWholeRecording s bytes r → bytes ≡ read ++ rest → (ended ≡ true → rest ≡ [])
     → Ends e s read ended P given → (P ends.Open → ⊥) → (P ends.Done → ⊥) → ⊥
 ends_no_other e s bytes read rest r ended P given whole lost all h closed other =

@@ -20,3 +20,4 @@ pub mod HeadStepLemmas
 pub mod BodyStepLemmas
 pub mod FlushLemmas
 pub mod FinishLemmas
+pub mod SizeLaws

@@ -1,0 +1,89 @@
+-- An engine that runs over the self-test.
+use Rattle.std.proofs.Common.{◌≡◌, ℕ, suc, ◌+◌, ◌*◌, ◌^◌, ◌<◌, ◌≤◌, Bool, true, false, List, [], ◌∷◌, ◌++◌, length, length-append, Option, None, Some, refl, sym, ap, ◌∙◌, subst, arith}
+use Rattle.std.proofs.lemmas.List.{append-nil, append_assoc}
+use Rattle.orb_io.specs.Told.{IsPrefix}
+use Rattle.orb_io.proofs.ToldLemmas.{IsPrefix-trans}
+use Rattle.orb_engine.specs.declared.settings.Settings.{Settings}
+use Rattle.orb_engine.specs.declared.engine.Engine.{Engine}
+use Rattle.orb_engine.specs.declared.outcome.EngineOutcome.{EngineOutcome}
+use Rattle.orb_engine.specs.declared.outcome.EngineOutcome.TheVariants.{Done, Bad, Cut, HeadLimit, MediaFull, Endless, ReadFault, WriteFault}
+use Rattle.orb_engine.specs.Recording.{Recording, IsRecording}
+use Rattle.orb_engine.specs.Ends as ends
+use Rattle.orb_engine.specs.Ends.{stop_of}
+use Rattle.orb_engine.specs.Outputs.{output_of}
+use Rattle.orb_engine.specs.Reads.{IsStop, HaltCause}
+use Rattle.orb_engine.specs.Runs.{Ends, Fails, HasCounted, Ran as EngineRan, RunCauses}
+use Rattle.orb_engine.specs.Complete.{IsWholeRecording}
+use Rattle.orb_engine.proofs.AnswerLaws.{one-exchanges, output-ends}
+use Rattle.orb_engine.proofs.CompleteLemmas.{ends_all, ends_no_other, open_not_done, whole_is_not_endless}
+use Rattle.trial.specs.Trials.{trial_of}
+use Rattle.trial.specs.Recorded.{IsRecorded}
+use Rattle.orb_cli.specs.Trial.{IsTrialRecording, RunsTrial, BreaksTrial, TrialAnswers}
+use Rattle.orb_cli.proofs.AnswerLemmas.{within_all}
+
+-- the recording that the law gives
+recorded : (s : Settings) (seed count : ℕ) (l : IsRecorded s seed count) → IsTrialRecording s seed count l.recording
+recorded s seed count l = record { cut = l.whole.cut; done = l.whole.done; number = l.number }
+
+done_by : (e : Engine) (s : Settings) (seed count : ℕ) (read rest wrote : List ℕ) (ended : Bool) (l : IsRecorded s seed count)
+    → trial_of seed count ≡ read ++ rest → (ended ≡ true → rest ≡ []) → Ends e s read ended (IsStop Done) wrote
+    → RunsTrial e s seed count wrote
+done_by e s seed count read rest wrote false l lost all h = absurd (open_not_done h.recording h.stop)
+done_by e s seed count read rest wrote true l lost all h =
+    let whole : read ≡ trial_of seed count = sym (lost ∙ ap (λ x. read ++ x) (all refl) ∙ append-nil read) in
+    let cut : IsRecording s (trial_of seed count) h.recording = subst (λ (x : List ℕ). IsRecording s x h.recording) whole h.cut in
+    record {
+      recording = h.recording;
+      is = record {
+        cut = cut;
+        done = h.stop;
+        number = ap length (one-exchanges s (trial_of seed count) h.recording l.recording cut l.whole.cut) ∙ l.number;
+      };
+      output = h.gave;
+      counted = h.counted;
+    }
+
+-- what begins the output begins that where the input has ended
+ended_later : (s : Settings) (r : Recording) (ended : Bool) (wrote : List ℕ) → IsPrefix wrote (output_of s r ended)
+    → IsPrefix wrote (output_of s r true)
+ended_later s r true wrote within = within
+ended_later s r false wrote within = IsPrefix-trans wrote (output_of s r false) (output_of s r true) within (output-ends s r)
+
+breaks_by : (e : Engine) (s : Settings) (seed count : ℕ) (read rest wrote : List ℕ) (ended : Bool) (l : IsRecorded s seed count)
+    → trial_of seed count ≡ read ++ rest → (ended ≡ true → rest ≡ []) → Fails e s read ended wrote
+    → BreaksTrial s seed count wrote
+breaks_by e s seed count read rest wrote ended l lost all h =
+    let are : trial_of seed count ≡ h.seen ++ (h.unseen ++ rest) = lost ∙ ap (λ x. x ++ rest) h.all ∙ append_assoc h.seen h.unseen rest in
+    let none : ended ≡ true → h.unseen ++ rest ≡ [] = λ is. ap (λ x. x ++ rest) (h.all_seen is) ∙ all is in
+    let some : IsPrefix wrote (output_of s l.recording ended) =
+    within_all s (trial_of seed count) h.seen (h.unseen ++ rest) wrote ended h.recording l.recording are none h.cut h.within l.whole.cut in
+    record {
+      recording = l.recording;
+      is = recorded s seed count l;
+      within = ended_later s l.recording ended wrote some;
+    }
+
+pub trial_answers : (o : EngineOutcome) (e : Engine) (s : Settings) (seed count : ℕ) (left' : Option (List ℕ)) (wrote : List ℕ) (sink sink' : ℕ)
+    → IsRecorded s seed count → EngineRan o e s (Some (trial_of seed count)) left' wrote → RunCauses o 0 0 sink sink'
+    → TrialAnswers o e s seed count wrote
+trial_answers o e s seed count None wrote n n' l ran causes = absurd ran.lost
+trial_answers Done e s seed count (Some rest) wrote n n' l ran causes =
+    done_by e s seed count ran.read rest wrote ran.ended l ran.lost ran.at_end ran.answers
+trial_answers WriteFault e s seed count (Some rest) wrote n n' l ran causes =
+    breaks_by e s seed count ran.read rest wrote ran.ended l ran.lost ran.at_end ran.answers
+trial_answers Endless e s seed count (Some rest) wrote n n' l ran causes =
+    whole_is_not_endless s (trial_of seed count) ran.read rest l.recording l.whole ran.lost ran.answers.0
+trial_answers ReadFault e s seed count (Some rest) wrote n n' l ran causes = omega (arith, causes.0.1)
+trial_answers o e s seed count (Some rest) wrote n n' l ran causes =
+    ends_no_other e s (trial_of seed count) ran.read rest l.recording ran.ended (IsStop o) wrote l.whole ran.lost ran.at_end ran.answers
+    (λ x. cc) (λ x. cc)
+
+pub trial_causes : (o : EngineOutcome) (sink sink' : ℕ) → RunCauses o 0 0 sink sink' → HaltCause o sink sink'
+trial_causes Done n n' causes = causes.1
+trial_causes (Bad kind place) n n' causes = causes.1
+trial_causes (Cut place) n n' causes = causes.1
+trial_causes (HeadLimit place) n n' causes = causes.1
+trial_causes (MediaFull place) n n' causes = causes.1
+trial_causes Endless n n' causes = causes.1
+trial_causes ReadFault n n' causes = causes.1
+trial_causes WriteFault n n' causes = causes.1
