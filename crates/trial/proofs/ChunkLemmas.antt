@@ -154,7 +154,7 @@ sent_is_prefix body =
 
 -- ---- and its length
 
-chunk_length : (bytes : List ℕ) → length bytes < 4096 → length (chunk bytes) ≤ length bytes + 7
+pub chunk_length : (bytes : List ℕ) → length bytes < 4096 → length (chunk bytes) ≤ length bytes + 7
 unfolding chunk
 chunk_length bytes small =
     let size = digits 16 false (length bytes) in

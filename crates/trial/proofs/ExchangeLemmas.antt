@@ -101,7 +101,18 @@ body_length Text m small = omega (arith, length-repeat (m + 1) (codes "a b "))
 body_length Jpeg m small = omega (arith, length-repeat m (nul ∷ []))
 body_length Media m small = omega (arith, length-repeat m (nul ∷ []))
 
-jpeg_length : (m : ℕ) → m < 1009 → length (body_of Jpeg m) < 4096
+pub body_some : (kind : Kind) (m : ℕ) → 1 ≤ length (body_of kind m)
+unfolding body_of
+body_some Javascript m = omega (arith, length-repeat (m + 1) (codes "x;"))
+body_some Nosniff m = omega (arith, length-repeat (m + 1) (codes "a"))
+body_some Png m = omega arith
+body_some Script m = omega (arith, length-repeat (m + 1) (codes "var a=0;"))
+body_some Json m = omega arith
+body_some Text m = omega (arith, length-repeat (m + 1) (codes "a b "))
+body_some Jpeg m = omega arith
+body_some Media m = omega arith
+
+pub jpeg_length : (m : ℕ) → m < 1009 → length (body_of Jpeg m) ≤ 2048
 unfolding body_of
 jpeg_length m small = omega (arith, length-repeat m (nul ∷ []))
 
@@ -113,7 +124,7 @@ sent_fits Script m small = omega (arith, body_length Script m small)
 sent_fits Json m small = omega (arith, body_length Json m small)
 sent_fits Text m small = omega (arith, body_length Text m small)
 sent_fits Media m small = omega (arith, body_length Media m small)
-sent_fits Jpeg m small = sent_length (body_of Jpeg m) (jpeg_length m small)
+sent_fits Jpeg m small = sent_length (body_of Jpeg m) (omega (arith, jpeg_length m small))
 
 -- ---- heads
 
@@ -232,6 +243,10 @@ table_stays_small s table Jpeg m id low small = small
 table_stays_small s table Media m id low small =
     keeps_is_small table id (state_after table (exchange_for s table Media m id)) low small
 
+pub response_fits : (kind : Kind) (n : ℕ) → n < 10000 → length (head_text (status_line kind) (fields_of kind n)) ≤ 384
+response_fits kind n small =
+    subst (λ line. length (head_text line (fields_of kind n)) ≤ 384) (sym (same_line kind)) (says kind n small).fits
+
 pub text_fits : (kind : Kind) (m id : ℕ) → m < 1009 → id < 16 → length (exchange_text kind m id) ≤ 200000
 unfolding exchange_text head_limit
 text_fits kind m id short low =
@@ -239,9 +254,7 @@ text_fits kind m id short low =
     let n = length (body_of kind m) in
     let response = head_text (status_line kind) (fields_of kind n) in
     let sent = sent_of kind (body_of kind m) in
-    let fits : length response ≤ 65536 =
-    subst (λ line. length (head_text line (fields_of kind n)) ≤ 65536) (sym (same_line kind))
-    (says kind n (omega (arith, body_length kind m short))).fits in
+    let fits = response_fits kind n (omega (arith, body_length kind m short)) in
     omega (
       arith,
       length-append request (response ++ sent),

@@ -6,3 +6,4 @@ pub mod ChunkLemmas
 pub mod TableLemmas
 pub mod ExchangeLemmas
 pub mod WholeLemmas
+pub mod SourceLemmas

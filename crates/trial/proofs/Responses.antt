@@ -84,7 +84,7 @@ pub record Says (line : StatusLine) (fields : List (List ℕ × List ℕ)) (esse
   pub is_line : IsStatusLine line
   pub plain : ArePlain fields
   pub few : length fields ≤ 128
-  pub fits : length (head_text (line_text line) fields) ≤ 65536
+  pub fits : length (head_text (line_text line) fields) ≤ 384
   pub frame_is : frame_of false (status_code (response_tree line fields)) fields ≡ Ok frame
   pub essence_is : HasEssence fields essence
 
@@ -102,7 +102,7 @@ pub IsResponseHead-text : (line : StatusLine) (fields : List (List ℕ × List �
     → Says line fields essence frame → IsResponseHead false (text_of line fields essence frame)
 unfolding head_limit
 IsResponseHead-text line fields essence frame says = record {
-  text = record { ends = head_ends (line_text line) fields says.is_line.whole says.plain; fits = says.fits };
+  text = record { ends = head_ends (line_text line) fields says.is_line.whole says.plain; fits = omega (arith, says.fits) };
   tree = response_tree line fields;
   reads = IsResponse-tree line fields says.is_line says.plain says.few;
   status = refl;
@@ -290,7 +290,7 @@ jpeg_says n small = record {
       refl refl refl;
 }
 
-range_fits : (n : ℕ) → n < 10000 → length (head_text (line_text partial) (fields_of Media n)) ≤ 65536
+range_fits : (n : ℕ) → n < 10000 → length (head_text (line_text partial) (fields_of Media n)) ≤ 384
 range_fits n small =
     let range = decimal (n - 1) ++ (solidus ∷ decimal n) in
     let line = field_line (codes "Content-Length", decimal n) in
