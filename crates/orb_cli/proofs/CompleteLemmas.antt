@@ -9,8 +9,8 @@ use Rattle.orb_engine.specs.Complete.{IsWholeRecording, IsAll}
 use Rattle.orb_engine.proofs.CompleteLemmas.{prefix_is_all, whole_is_not_endless}
 use Rattle.orb_cli.specs.declared.outcome.Outcome.{Outcome}
 use Rattle.orb_cli.specs.declared.outcome.Outcome.TheVariants.{Done, Usage, Bad, Cut, HeadLimit, MediaFull, Endless, ReadFault, WriteFault, NoMemory}
-use Rattle.orb_cli.specs.Answer.{EndsAt, IsJudgeAnswer, IsMimeAnswer, Ran, HasCauses}
-use Rattle.orb_cli.specs.Complete.{IsComplete, IsCompleteText}
+use Rattle.orb_cli.specs.Answer.{EndsAt, IsJudgeAnswer, IsMimeAnswer, IsTrialAnswer, Ran, HasCauses}
+use Rattle.orb_cli.specs.Complete.{IsComplete, IsCompleteText, IsCompleteTrial}
 
 -- what was lost of the whole recording is all of it, and it ends Done
 whole_ends : (s : Settings) (bytes read rest wrote : List ℕ) (r : Recording) (ended : Bool) (stop : End)
@@ -59,3 +59,12 @@ complete_text text left left' wrote m m' n n' Done ran causes calm = ran.answers
 complete_text text left left' wrote m m' n n' NoMemory ran causes calm = ran.answers.1
 complete_text text left left' wrote m m' n n' WriteFault ran causes calm = calm causes.1
 complete_text text left left' wrote m m' n n' _ ran causes calm = ran.answers
+
+pub complete_trial : (seed count : ℕ) (left left' : Option (List ℕ)) (wrote : List ℕ)
+    (source source' sink sink' : ℕ) (answer : Outcome)
+    → Ran (λ read ended wrote answer. IsTrialAnswer seed count read answer wrote) left left' answer wrote
+    → HasCauses source source' sink sink' answer → ¬ (Rose sink sink') → IsCompleteTrial seed count wrote answer
+complete_trial seed count left left' wrote m m' n n' Done ran causes calm = ran.answers.1
+complete_trial seed count left left' wrote m m' n n' NoMemory ran causes calm = ran.answers.1
+complete_trial seed count left left' wrote m m' n n' WriteFault ran causes calm = calm causes.1
+complete_trial seed count left left' wrote m m' n n' _ ran causes calm = ran.answers

@@ -1,7 +1,9 @@
 -- An engine that runs over the self-test.
-use Rattle.std.proofs.Common.{◌≡◌, ℕ, suc, ◌+◌, ◌*◌, ◌^◌, ◌<◌, ◌≤◌, Bool, true, false, List, [], ◌∷◌, ◌++◌, length, length-append, Option, None, Some, refl, sym, ap, ◌∙◌, subst, arith}
+use Rattle.std.proofs.Common.{◌≡◌, ℕ, suc, ◌+◌, ◌*◌, ◌^◌, ◌<◌, ◌≤◌, ◌-◌, min, Bool, true, false, List, [], ◌∷◌, ◌++◌, length, length-append, Option, None, Some, refl, sym, ap, ◌∙◌, subst, arith}
 use Rattle.std.proofs.lemmas.List.{append-nil, append_assoc}
-use Rattle.orb_io.specs.Told.{IsPrefix}
+use Rattle.std.proofs.lemmas.Option.{same_Some}
+use Rattle.std.proofs.lemmas.Bool.Decides.{nat_tests}
+use Rattle.orb_io.specs.Told.{Told, Gives, IsPrefix, told_number}
 use Rattle.orb_io.proofs.ToldLemmas.{IsPrefix-trans}
 use Rattle.orb_engine.specs.declared.settings.Settings.{Settings}
 use Rattle.orb_engine.specs.declared.engine.Engine.{Engine}
@@ -12,13 +14,15 @@ use Rattle.orb_engine.specs.Ends as ends
 use Rattle.orb_engine.specs.Ends.{stop_of}
 use Rattle.orb_engine.specs.Outputs.{output_of}
 use Rattle.orb_engine.specs.Reads.{IsStop, HaltCause}
-use Rattle.orb_engine.specs.Runs.{Ends, Fails, HasCounted, Ran as EngineRan, RunCauses}
+use Rattle.orb_engine.specs.Runs.{Ends, Fails, Ran as EngineRan, RunCauses, allowed_by, blocked_by, run_limit}
 use Rattle.orb_engine.specs.Complete.{IsWholeRecording}
+use Rattle.orb_engine.proofs.SizeLaws.{output-short}
 use Rattle.orb_engine.proofs.AnswerLaws.{one-exchanges, output-ends}
 use Rattle.orb_engine.proofs.CompleteLemmas.{ends_all, ends_no_other, open_not_done, whole_is_not_endless}
 use Rattle.trial.specs.Trials.{trial_of}
 use Rattle.trial.specs.Recorded.{IsRecorded}
-use Rattle.orb_cli.specs.Trial.{IsTrialRecording, RunsTrial, BreaksTrial, TrialAnswers}
+use Rattle.trial.proofs.WholeLemmas.{is_recorded}
+use Rattle.orb_cli.specs.Trial.{IsTrialRecording, RunsTrial, BreaksTrial, TrialAnswers, IsTrialLine, trial_settings, trial_line}
 use Rattle.orb_cli.proofs.AnswerLemmas.{within_all}
 
 -- the recording that the law gives
@@ -87,3 +91,48 @@ trial_causes (MediaFull place) n n' causes = causes.1
 trial_causes Endless n n' causes = causes.1
 trial_causes ReadFault n n' causes = causes.1
 trial_causes WriteFault n n' causes = causes.1
+
+-- the sink that counts has the number of the bytes that it was given, where that is a u64
+number_is : (zero_ m n size : ℕ) → zero_ ≡ 0 → min m (2 ^ 64 - 1) ≡ min (min zero_ (2 ^ 64 - 1) + size) (2 ^ 64 - 1)
+    → min m (2 ^ 64 - 1) ≡ n → size < 2 ^ 64 → n ≡ size
+number_is zero_ m n size none gained told fits =
+    sym told ∙ gained
+    ∙ ap (λ k. min k (2 ^ 64 - 1)) (ap (λ k. min k (2 ^ 64 - 1) + size) none)
+    ∙ least size fits
+  where
+    least : (k : ℕ) → k < 2 ^ 64 → min (min 0 (2 ^ 64 - 1) + k) (2 ^ 64 - 1) ≡ k
+    least k below = grind (arith, nat_tests, below)
+
+-- what is written of the self-test is shorter than 2^64 bytes
+trial-short : (s : Settings) (seed count : ℕ) (r : Recording) → count ≤ 1000000 → IsTrialRecording s seed count r
+    → length (output_of s r true) < 2 ^ 64
+unfolding run_limit
+trial-short s seed count r few is =
+    let fits = (is_recorded s seed count few).whole.fits in
+    let short = output-short s (trial_of seed count) r true is.cut (omega (arith, is.number, few)) (omega (arith, fits)) in
+    omega (arith, short, fits, is.number, few)
+
+-- the line of the counts is that of the self-test
+pub line_is : (e : Engine) (s : Settings) (seed count allowed blocked zero_ m n : ℕ) (line : List ℕ)
+    → s ≡ trial_settings → count ≤ 1000000 → zero_ ≡ 0
+    → Gives (told_number zero_) (told_number m) [] (TrialAnswers Done e s seed count)
+    → allowed ≡ allowed_by e → blocked ≡ blocked_by e → (told_number m).size ≡ Some n
+    → line ≡ trial_line count allowed blocked n → IsTrialLine seed count line
+line_is e s seed count allowed blocked zero_ m n line same few none gives allows blocks told is =
+    let h : RunsTrial e trial_settings seed count gives.more =
+    subst (λ (t : Settings). RunsTrial e t seed count gives.more) same gives.holds in
+    let size = ap length h.output in
+    let short = trial-short trial_settings seed count h.recording few h.is in
+    let number = number_is zero_ m n (length gives.more) none gives.gained.number (same_Some _ _ told) (omega (arith, size, short)) in
+    record {
+      recording = h.recording;
+      is = h.is;
+      are = is ∙ rw (allows ∙ h.counted.allowed, blocks ∙ h.counted.blocked, number ∙ size) refl;
+    }
+
+-- a sink that counts doesn't fail, and nothing else but `Done` comes
+pub only_done : (o : EngineOutcome) (e : Engine) (s : Settings) (seed count : ℕ) (old new : Told) → HaltCause o 0 0
+    → Gives old new [] (TrialAnswers o e s seed count) → o ≡ Done
+only_done Done e s seed count old new cause gives = refl
+only_done WriteFault e s seed count old new cause gives = absurd (omega (arith, cause.1))
+only_done o e s seed count old new cause gives = absurd gives.holds

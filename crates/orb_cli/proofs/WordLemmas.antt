@@ -4,12 +4,12 @@ use Rattle.orb_io.specs.Told.{Loses}
 use Rattle.orb_io.proofs.ToldLemmas.{Loses-none}
 use Rattle.command_line.specs.declared.asked.Job.{Job}
 use Rattle.command_line.specs.declared.asked.Policy.{Policy}
-use Rattle.command_line.specs.Taken.{Asked, Judge, Mime, IsTaken}
+use Rattle.command_line.specs.Taken.{Asked, Judge, Trial, Mime, IsTaken}
 use Rattle.command_line.proofs.TakenLemmas.{one_asked}
 use Rattle.orb_cli.specs.declared.outcome.Outcome.{Outcome}
 use Rattle.orb_cli.specs.declared.outcome.Outcome.TheVariants.{Done, Usage, Bad, Cut, HeadLimit, MediaFull, Endless, ReadFault, WriteFault, NoMemory}
 use Rattle.orb_cli.specs.Words.{settings_of, is_run, AreRefused}
-use Rattle.orb_cli.specs.Answer.{IsJudgeAnswer, IsMimeAnswer, IsAnswer, Answers, AnswersWords, Ran, Untouched}
+use Rattle.orb_cli.specs.Answer.{IsJudgeAnswer, IsMimeAnswer, IsTrialAnswer, IsAnswer, Answers, AnswersWords, Ran, Untouched}
 
 -- what says another thing of an answer
 pub Ran-as : (P Q : (read : List ℕ) (ended : Bool) (wrote : List ℕ) → Outcome → Type 0)
@@ -64,6 +64,14 @@ mime_words words text taken WriteFault read ended wrote says = (Mime text, taken
 mime_words words text taken NoMemory read ended wrote says = says
 mime_words words text taken _ read ended wrote says = absurd says
 
+pub trial_words : (words : List (List ℕ)) (seed count : ℕ) → IsTaken words (Trial seed count)
+    → (answer : Outcome) (read : List ℕ) (ended : Bool) (wrote : List ℕ)
+    → IsTrialAnswer seed count read answer wrote → Answers words read ended wrote answer
+trial_words words seed count taken Done read ended wrote says = (Trial seed count, taken, says)
+trial_words words seed count taken WriteFault read ended wrote says = (Trial seed count, taken, says)
+trial_words words seed count taken NoMemory read ended wrote says = says
+trial_words words seed count taken _ read ended wrote says = absurd says
+
 -- and what they say where the words ask for this
 said_of : (words : List (List ℕ)) (asked : Asked) (read : List ℕ) (ended : Bool) (wrote : List ℕ) (answer : Outcome)
     → IsTaken words asked → AnswersWords words read ended wrote answer → IsAnswer asked read ended wrote answer
@@ -98,3 +106,17 @@ mime_of words text taken (MediaFull place) read ended wrote says = said_of words
 mime_of words text taken Endless read ended wrote says = said_of words (Mime text) read ended wrote Endless taken says
 mime_of words text taken ReadFault read ended wrote says = said_of words (Mime text) read ended wrote ReadFault taken says
 mime_of words text taken WriteFault read ended wrote says = said_of words (Mime text) read ended wrote WriteFault taken says
+
+pub trial_of : (words : List (List ℕ)) (seed count : ℕ) → IsTaken words (Trial seed count)
+    → (answer : Outcome) (read : List ℕ) (ended : Bool) (wrote : List ℕ)
+    → Answers words read ended wrote answer → IsTrialAnswer seed count read answer wrote
+trial_of words seed count taken Usage read ended wrote says = absurd (let no : true ≡ false = says.0 (Trial seed count) taken in cc)
+trial_of words seed count taken NoMemory read ended wrote says = says
+trial_of words seed count taken Done read ended wrote says = said_of words (Trial seed count) read ended wrote Done taken says
+trial_of words seed count taken (Bad kind place) read ended wrote says = said_of words (Trial seed count) read ended wrote (Bad kind place) taken says
+trial_of words seed count taken (Cut place) read ended wrote says = said_of words (Trial seed count) read ended wrote (Cut place) taken says
+trial_of words seed count taken (HeadLimit place) read ended wrote says = said_of words (Trial seed count) read ended wrote (HeadLimit place) taken says
+trial_of words seed count taken (MediaFull place) read ended wrote says = said_of words (Trial seed count) read ended wrote (MediaFull place) taken says
+trial_of words seed count taken Endless read ended wrote says = said_of words (Trial seed count) read ended wrote Endless taken says
+trial_of words seed count taken ReadFault read ended wrote says = said_of words (Trial seed count) read ended wrote ReadFault taken says
+trial_of words seed count taken WriteFault read ended wrote says = said_of words (Trial seed count) read ended wrote WriteFault taken says

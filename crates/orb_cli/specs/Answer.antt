@@ -9,9 +9,10 @@ use Rattle.orb_engine.specs.Outputs.{output_of}
 use Rattle.orb_engine.specs.Runs.{run_limit}
 use Rattle.orb_cli.specs.declared.outcome.Outcome.{Outcome}
 use Rattle.orb_cli.specs.declared.outcome.Outcome.TheVariants as outcomes
-use Rattle.command_line.specs.Taken.{Asked, Judge, Mime, IsTaken}
+use Rattle.command_line.specs.Taken.{Asked, Judge, Trial, Mime, Serve, IsTaken}
 use Rattle.orb_cli.specs.Words.{settings_of, AreRefused}
 use Rattle.orb_cli.specs.MimeLine.{IsMimeLine}
+use Rattle.orb_cli.specs.Trial.{IsTrialLine}
 
 -- nothing was read or written
 abbrev pub Untouched : (read wrote : List ℕ) → Type 0
@@ -56,11 +57,20 @@ IsMimeAnswer text read outcomes.WriteFault wrote =
 IsMimeAnswer text read outcomes.NoMemory wrote = Untouched read wrote
 IsMimeAnswer text read _ wrote = ⊥
 
+-- what an answer to `trial` with these numbers says: nothing is ever read
+abbrev pub IsTrialAnswer : (seed count : ℕ) (read : List ℕ) → Outcome → (wrote : List ℕ) → Type 0
+IsTrialAnswer seed count read outcomes.Done wrote = (read ≡ []) × IsTrialLine seed count wrote
+IsTrialAnswer seed count read outcomes.WriteFault wrote =
+    (read ≡ []) × (line : List ℕ) × IsTrialLine seed count line × IsPrefix wrote line
+IsTrialAnswer seed count read outcomes.NoMemory wrote = Untouched read wrote
+IsTrialAnswer seed count read _ wrote = ⊥
+
 -- what an answer to words that ask for this says
 abbrev pub IsAnswer : Asked → (read : List ℕ) (ended : Bool) (wrote : List ℕ) → Outcome → Type 0
 IsAnswer (Judge job policy limit) read ended wrote answer = IsJudgeAnswer (settings_of job policy limit) read ended wrote answer
 IsAnswer (Mime text) read ended wrote answer = IsMimeAnswer text read answer wrote
-IsAnswer _ read ended wrote answer = ⊥
+IsAnswer (Trial seed count) read ended wrote answer = IsTrialAnswer seed count read answer wrote
+IsAnswer (Serve address count) read ended wrote answer = ⊥
 
 -- what the words ask for, and that the answer says so of it
 abbrev pub AnswersWords : List (List ℕ) → (read : List ℕ) (ended : Bool) (wrote : List ℕ) → Outcome → Type 0

@@ -1,9 +1,10 @@
--- Where nothing fails, a whole recording and a text are answered `Done`.
+-- Where nothing fails, a whole recording, a text and a self-test are answered `Done`.
 use Rattle.std.specs.Prelude.{◌≡◌, ℕ, true, List, [], Option, Some}
 use Rattle.orb_engine.specs.declared.settings.Settings.{Settings}
 use Rattle.orb_engine.specs.Recording.{Recording}
 use Rattle.orb_engine.specs.Outputs.{output_of}
 use Rattle.orb_cli.specs.MimeLine.{IsMimeLine}
+use Rattle.orb_cli.specs.Trial.{IsTrialLine}
 use Rattle.orb_cli.specs.declared.outcome.Outcome.{Outcome}
 use Rattle.orb_cli.specs.declared.outcome.Outcome.TheVariants as outcomes
 
@@ -18,3 +19,9 @@ abbrev pub IsCompleteText : (text wrote : List ℕ) → Outcome → Type 0
 IsCompleteText text wrote outcomes.Done = IsMimeLine text wrote
 IsCompleteText text wrote outcomes.NoMemory = wrote ≡ []
 IsCompleteText text wrote _ = ⊥
+
+-- the line of the self-test was written, or there was no memory and nothing was
+abbrev pub IsCompleteTrial : (seed count : ℕ) (wrote : List ℕ) → Outcome → Type 0
+IsCompleteTrial seed count wrote outcomes.Done = IsTrialLine seed count wrote
+IsCompleteTrial seed count wrote outcomes.NoMemory = wrote ≡ []
+IsCompleteTrial seed count wrote _ = ⊥

@@ -5,17 +5,17 @@ ghost use Rattle.orb_engine.specs.Recording.{Recording};
 ghost use Rattle.orb_engine.specs.Complete.{IsWholeRecording};
 ghost use Rattle.command_line.specs.declared.asked.Job.{Job};
 ghost use Rattle.command_line.specs.declared.asked.Policy.{Policy};
-ghost use Rattle.command_line.specs.Taken.{IsTaken, Judge, Mime};
+ghost use Rattle.command_line.specs.Taken.{IsTaken, Judge, Trial, Mime};
 ghost use Rattle.orb_cli.specs.declared.outcome.Outcome.{Outcome};
 ghost use Rattle.orb_cli.specs.Words.{settings_of};
 ghost use Rattle.orb_cli.specs.Answer.{Answers, Ran, HasCauses};
-ghost use Rattle.orb_cli.specs.Complete.{IsComplete, IsCompleteText};
+ghost use Rattle.orb_cli.specs.Complete.{IsComplete, IsCompleteText, IsCompleteTrial};
 
 /// Law: where no count of faults rose, [`crate::run`] answers `Done`, or `NoMemory` with nothing read and written.
 ///
 /// With the words `filter` and `explain` this holds where the source tells its bytes, they are a recording that
 /// ends after a whole exchange or is empty, and one run takes so many. `Done` then says that all was read, and
-/// that all that is written of the recording was written. With `mime` it says that the line was written.
+/// that all that is written of the recording was written. With `mime` and `trial` it says that the line was written.
 pub fn completeness()
     ensures recordings { (words : List (List ℕ)) (job : Job) (policy : Policy) (limit : ℕ) (bytes : List ℕ) (r : Recording)
         (left' : Option (List ℕ)) (wrote : List ℕ) (source source' sink sink' : ℕ) (answer : Outcome)
@@ -30,4 +30,10 @@ pub fn completeness()
         → HasCauses source source' sink sink' answer
         → ¬ (Rose sink sink')
         → IsCompleteText text wrote answer }
+    ensures trials { (words : List (List ℕ)) (seed count : ℕ) (left left' : Option (List ℕ)) (wrote : List ℕ)
+        (source source' sink sink' : ℕ) (answer : Outcome)
+        → IsTaken words (Trial seed count) → Ran (Answers words) left left' answer wrote
+        → HasCauses source source' sink sink' answer
+        → ¬ (Rose sink sink')
+        → IsCompleteTrial seed count wrote answer }
 {}

@@ -16,8 +16,10 @@ mod report;
 #[cfg(test)]
 mod tests;
 mod top;
+mod trial_word;
 
 pub use laws::completeness;
 pub use outcome::Outcome;
 pub use report::outcome_line;
 pub use top::run;
+pub use trial_word::trial_run;

@@ -7,6 +7,7 @@ use crate::commands::settings;
 use crate::judging::judge;
 use crate::mime_word::mime;
 use crate::outcome::Outcome;
+use crate::trial_word::trial;
 use command_line::{Command, Refused, read_words};
 use orb_io::{Sink, Source};
 use std::alloc::Global;
@@ -40,6 +41,7 @@ pub fn run<I: Source, O: Sink>(
             judge(alloc, settings(job, policy, limit), input, output)
         }
         Command::Mime(text) => mime(alloc, text, output),
-        Command::Trial { .. } | Command::Serve { .. } => Outcome::Usage,
+        Command::Trial { seed, count } => trial(alloc, seed, count, output),
+        Command::Serve { .. } => Outcome::Usage,
     }
 }

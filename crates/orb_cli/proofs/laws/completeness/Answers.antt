@@ -1,7 +1,7 @@
 use Rattle.orb_cli.specs.Words.{settings_of}
-use Rattle.orb_cli.specs.Answer.{Answers, IsJudgeAnswer, IsMimeAnswer}
-use Rattle.orb_cli.proofs.WordLemmas.{Ran-as, judged_of, mime_of}
-use Rattle.orb_cli.proofs.CompleteLemmas.{complete_recording, complete_text}
+use Rattle.orb_cli.specs.Answer.{Answers, IsJudgeAnswer, IsMimeAnswer, IsTrialAnswer}
+use Rattle.orb_cli.proofs.WordLemmas.{Ran-as, judged_of, mime_of, trial_of}
+use Rattle.orb_cli.proofs.CompleteLemmas.{complete_recording, complete_text, complete_trial}
 use Rattle.orb_cli.proofs.laws.completeness.Goals as goal
 
 pub returns : goal.returns
@@ -14,4 +14,8 @@ returns c = record {
       complete_text text left left' wrote m m' n n' answer
       (Ran-as (Answers words) (λ read ended wrote answer. IsMimeAnswer text read answer wrote) left left' answer wrote
       (λ read ended. mime_of words text taken answer read ended wrote) ran) causes calm;
+  trials = λ words seed count left left' wrote m m' n n' answer taken ran causes calm.
+      complete_trial seed count left left' wrote m m' n n' answer
+      (Ran-as (Answers words) (λ read ended wrote answer. IsTrialAnswer seed count read answer wrote) left left' answer wrote
+      (λ read ended. trial_of words seed count taken answer read ended wrote) ran) causes calm;
 }
