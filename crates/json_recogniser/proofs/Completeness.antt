@@ -8,7 +8,7 @@ use Rattle.std.proofs.lemmas.Bool.{cond-true, cond-false, not-true, and_parts, a
 use Rattle.std.proofs.lemmas.Bool.Decides.{nat_tests}
 use Rattle.json_recogniser.specs.Grammar.{is_white_space, AreSpaces, AreDigits, is_digit_from_1, is_e, is_sign, Minus, no_minus, minus, Int, zero_alone, from_1, Frac, no_frac, frac, Sign, no_sign, sign, Exp, no_exp, exp, Number, IsGoodInt, IsGoodFrac, IsGoodSign, IsGoodExp, IsGoodNumber, minus_text, int_text, frac_text, sign_text, exp_text, number_text, Char, unescaped, escaped, unicode, is_unescaped, is_escaped, IsGoodChar, AreGoodChars, char_text, chars_text, string_text, Value, false_literal, null_literal, true_literal, object_of_none, object, array_of_none, array, number, string, Members, last_member, member_and, Member, member, Elements, last_element, element_and, Element, element, IsGood, AreGoodMembers, IsGoodMember, AreGoodElements, IsGoodElement, depth, members_depth, member_depth, elements_depth, element_depth, value_text, members_text, member_text, elements_text, element_text, IsJson}
 use Rattle.json_recogniser.specs.Reading.{without_leading, behind_char, behind_digits, behind_minus, behind_int, behind_frac, behind_sign, behind_exp, behind_number, behind_string_char, behind_chars, behind_string, behind_spaces, behind_separator, behind_items, behind_value_by, behind_element_by, behind_colon, behind_member_by, behind_contents, behind_element}
-use Rattle.json_recogniser.specs.declared.values.Container.{Container}
+use Rattle.json_recogniser.specs.declared.states.Container.{Container}
 use Rattle.std.proofs.Math.Nat.{le-max_left, le-max_right}
 use Rattle.std.proofs.lemmas.List.{length-append}
 

@@ -2,8 +2,8 @@
 use Rattle.std.proofs.Common.{◌≡◌, Bool, true, false, ◌&&◌, List, [], ◌∷◌, reverse, length, refl, sym, ap, ◌∙◌, arith, ◌==◌}
 use Rattle.std.proofs.lemmas.List.{length-reverse}
 use Rattle.std.proofs.lemmas.Bool.Decides.{nat_tests}
-use Rattle.json_recogniser.specs.declared.values.Container.{Container}
-use Rattle.json_recogniser.specs.declared.values.Container.TheVariants.{Array, Object}
+use Rattle.json_recogniser.specs.declared.states.Container.{Container}
+use Rattle.json_recogniser.specs.declared.states.Container.TheVariants.{Array, Object}
 use Rattle.json_recogniser.specs.declared.states.State.{State}
 use Rattle.json_recogniser.specs.declared.states.State.TheVariants as state
 use Rattle.json_recogniser.specs.declared.states.Part.TheVariants as part

@@ -1,8 +1,8 @@
 -- The counts of the loops don't matter, where they are above the text's length: each piece that is read is shorter than the text.
 use Rattle.std.proofs.Common.{◌≡◌, ℕ, zero, suc, ◌<◌, List, ◌∷◌, length, Option, Some, None, option_and_then, refl, ap, length-append, ◌≤◌, arith}
 use Rattle.std.specs.Option.{option_or}
-use Rattle.json_recogniser.specs.declared.values.Container.{Container}
-use Rattle.json_recogniser.specs.declared.values.Container.TheVariants.{Array, Object}
+use Rattle.json_recogniser.specs.declared.states.Container.{Container}
+use Rattle.json_recogniser.specs.declared.states.Container.TheVariants.{Array, Object}
 use Rattle.json_recogniser.specs.Grammar.{is_white_space, string_text}
 use Rattle.json_recogniser.specs.Reading.{behind_spaces, behind_char, behind_name, behind_colon, behind_string_char, behind_chars, behind_separator, behind_items, behind_item_by, behind_value_by, behind_contents}
 use Rattle.json_recogniser.proofs.Soundness.{one_char, char-cut, contents-cut, value-cut, element-cut, member-cut, name-cut, colon-cut, leading}

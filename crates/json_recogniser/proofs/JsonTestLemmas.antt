@@ -4,7 +4,7 @@ use Rattle.std.specs.List.{list_all}
 use Rattle.std.proofs.lemmas.Bool.{and_parts, cases_Bool}
 use Rattle.text_stream.specs.Decoding.{characters_of}
 use Rattle.text_stream.specs.Decoder.{PassesAscii, ReadsAs, ahead, HasRead as DecoderHasRead}
-use Rattle.json_recogniser.specs.declared.values.Container.{Container}
+use Rattle.json_recogniser.specs.declared.states.Container.{Container}
 use Rattle.json_recogniser.specs.declared.states.State.{State}
 use Rattle.json_recogniser.specs.declared.states.State.TheVariants as state
 use Rattle.json_recogniser.specs.declared.json_test.JsonTest.{JsonTest}

@@ -1,8 +1,6 @@
 mod Completeness
-mod LoopLemmas
 mod Soundness
 mod Tools
-mod VerdictLemmas
 mod FuelLemmas
 mod ResidualLemmas
 mod EndLemmas

@@ -4,8 +4,8 @@ use Rattle.std.specs.Option.{option_or}
 use Rattle.std.specs.Char.{is_ascii_hexdigit}
 use Rattle.std.proofs.lemmas.Bool.{cases_Bool}
 use Rattle.std.proofs.lemmas.Bool.Decides.{nat_tests}
-use Rattle.json_recogniser.specs.declared.values.Container.{Container}
-use Rattle.json_recogniser.specs.declared.values.Container.TheVariants.{Array, Object}
+use Rattle.json_recogniser.specs.declared.states.Container.{Container}
+use Rattle.json_recogniser.specs.declared.states.Container.TheVariants.{Array, Object}
 use Rattle.json_recogniser.specs.declared.states.Move.TheVariants.{Open}
 use Rattle.json_recogniser.specs.declared.states.State.TheVariants.{First}
 use Rattle.json_recogniser.specs.declared.states.Role.{Role}

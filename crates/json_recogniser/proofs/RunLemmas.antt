@@ -3,7 +3,7 @@ use Rattle.std.proofs.Common.{◌≡◌, ℕ, ◌<◌, true, false, not, ◌&&�
 use Rattle.std.specs.Char.{is_ascii_digit}
 use Rattle.std.proofs.lemmas.Bool.{agree_below_at, and_parts, not-true}
 use Rattle.std.proofs.lemmas.Bool.Decides.{nat_tests}
-use Rattle.json_recogniser.specs.declared.values.Container.{Container}
+use Rattle.json_recogniser.specs.declared.states.Container.{Container}
 use Rattle.json_recogniser.specs.declared.states.State.{State}
 use Rattle.json_recogniser.specs.declared.states.State.TheVariants as state
 use Rattle.json_recogniser.specs.declared.states.Part.{Part}

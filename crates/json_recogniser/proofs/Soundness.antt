@@ -9,8 +9,8 @@ use Rattle.std.proofs.Math.Nat.{max-le}
 use Rattle.std.proofs.lemmas.Bool.{cond_both, and_from, and_parts}
 use Rattle.json_recogniser.specs.Grammar.{is_white_space, AreSpaces, AreDigits, is_digit_from_1, is_e, is_sign, Minus, no_minus, minus, Int, zero_alone, from_1, Frac, no_frac, frac, Sign, no_sign, sign, Exp, no_exp, exp, Number, IsGoodInt, IsGoodFrac, IsGoodSign, IsGoodExp, IsGoodNumber, minus_text, int_text, frac_text, sign_text, exp_text, number_text, Char, unescaped, escaped, unicode, is_unescaped, is_escaped, IsGoodChar, AreGoodChars, char_text, chars_text, string_text, Value, false_literal, null_literal, true_literal, object_of_none, object, array_of_none, array, number, string, Members, last_member, member_and, Member, member, Elements, last_element, element_and, Element, element, IsGood, AreGoodMembers, IsGoodMember, AreGoodElements, IsGoodElement, depth, members_depth, member_depth, elements_depth, element_depth, value_text, members_text, member_text, elements_text, element_text, IsJson}
 use Rattle.json_recogniser.specs.Reading.{without_leading, behind_char, behind_digits, behind_minus, behind_int, behind_frac, behind_sign, behind_exp, behind_number, behind_word, behind_hex, behind_escape, behind_string_char, behind_chars, behind_string, behind_spaces, behind_separator, behind_items, behind_value_by, behind_element_by, behind_name, behind_colon, behind_member_by, behind_contents, behind_element}
-use Rattle.json_recogniser.specs.declared.values.Container.{Container}
-use Rattle.json_recogniser.specs.declared.values.Container.TheVariants.{Array, Object}
+use Rattle.json_recogniser.specs.declared.states.Container.{Container}
+use Rattle.json_recogniser.specs.declared.states.Container.TheVariants.{Array, Object}
 use Rattle.json_recogniser.proofs.Tools.{nothing, same_some, both_steps, mapped, one_or_other, by_test, when_true}
 
 pub leading : (class : ℕ → Bool) (text : List ℕ) → (front : List ℕ) × (list_all class front ≡ true) × (text ≡ front ++ without_leading class text)

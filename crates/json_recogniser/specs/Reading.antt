@@ -1,11 +1,11 @@
--- What the private calls do: each gives what is behind a piece of the grammar that stands at the
--- front of a text, in its longest form, and nothing where no such piece stands there.
+-- Reading JSON: what follows a piece of the grammar that begins a text, in its longest form, and nothing
+-- where no such piece does. `Residuals` says with these what may still come for a machine.
 use Rattle.std.specs.Prelude.{ℕ, zero, suc, Bool, ◌&&◌, ◌==◌, nat_eq, length, drop, List, [], ◌∷◌, Option, Some, None, option_and_then, option_map, codes, if◌then◌else◌}
 use Rattle.std.specs.List.{starts_with}
 use Rattle.std.specs.Option.{option_or}
 use Rattle.std.specs.Char.{is_ascii_digit, is_ascii_hexdigit}
-use Rattle.json_recogniser.specs.declared.values.Container.{Container}
-use Rattle.json_recogniser.specs.declared.values.Container.TheVariants.{Array, Object}
+use Rattle.json_recogniser.specs.declared.states.Container.{Container}
+use Rattle.json_recogniser.specs.declared.states.Container.TheVariants.{Array, Object}
 use Rattle.json_recogniser.specs.Grammar.{is_white_space, is_digit_from_1, is_e, is_sign, is_unescaped, is_escaped}
 
 -- the text without the characters of a class at its front

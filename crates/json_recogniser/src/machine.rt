@@ -2,9 +2,8 @@
 ghost use Rattle.std.specs.Prelude.{◌≡◌, ◌∷◌, ◌++◌, [], ℕ, List};
 ghost use Rattle.json_recogniser.specs.Residuals.{is_json, may_end};
 
-use crate::states::{Move, Part, State};
+use crate::states::{Container, MOST_LEVELS, Move, Part, State};
 use crate::steps::next;
-use crate::values::{Container, MOST_LEVELS};
 use arrayvec::ArrayVec;
 
 /// Reads characters, one after the other.

@@ -3,7 +3,16 @@
 //! A state is named for what is expected next, and has what that needs. What the arrays and objects around it expect is kept
 //! beside it, one mark for each that is open.
 
-use crate::values::Container;
+/// How many arrays and objects may stand inside one another.
+pub const MOST_LEVELS: usize = 1024;
+
+/// What holds values (RFC 8259 sections 4 and 5).
+#[derive(Clone, Copy, Debug, Default)]
+pub enum Container {
+    #[default]
+    Array,
+    Object,
+}
 
 /// What is expected next.
 #[derive(Clone, Copy, Debug)]

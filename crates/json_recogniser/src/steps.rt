@@ -3,14 +3,13 @@
 //! Each function is a part of the machine, and its contract is the whole truth of it: behind the step there may come exactly
 //! what may come behind the character before it.
 ghost use Rattle.std.specs.Prelude.{◌≡◌, ◌∷◌, ℕ, suc, List, Some};
-ghost use Rattle.json_recogniser.specs.declared.values.Container.{Container as AContainer};
+ghost use Rattle.json_recogniser.specs.declared.states.Container.{Container as AContainer};
 ghost use Rattle.json_recogniser.specs.Grammar.{is_white_space};
 ghost use Rattle.json_recogniser.specs.Reading.{behind_escape};
 ghost use Rattle.json_recogniser.specs.Residuals.{residual, residual_of_text, residual_of_number, residual_of_word, moved, mark_of};
 ghost use Rattle.json_recogniser.specs.Residuals.{value_residual, name_residual, first_residual, item_residual, colon_residual, after_residual, behind_hexes};
 
-use crate::states::{Letters, Move, Part, Role, State, Step};
-use crate::values::Container;
+use crate::states::{Container, Letters, Move, Part, Role, State, Step};
 
 /// The state with the same marks.
 fn stay(state: State) -> Step

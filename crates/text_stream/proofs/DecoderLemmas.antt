@@ -9,7 +9,7 @@ use Rattle.text_stream.specs.Decoding.{further_bytes, characters_behind, charact
 use Rattle.text_stream.specs.declared.decoder.Stage.{Stage}
 use Rattle.text_stream.specs.declared.decoder.Stage.TheVariants.{Front, Within, Finished}
 use Rattle.text_stream.specs.declared.decoder.Decoder.{Decoder}
-use Rattle.text_stream.specs.Decoder.{HasRead, PassesAscii, ReadsAs, GivesAllButThree, ahead_at, pending_at, is_pending}
+use Rattle.text_stream.specs.Decoder.{HasRead, PassesAscii, GivesAllButThree, ahead_at, pending_at, is_pending}
 use Rattle.text_stream.specs.DecoderStages.{most_pending}
 use Rattle.text_stream.proofs.DecodingLemmas.{characters_behind-first}
 
@@ -195,33 +195,6 @@ passes_ascii decoder within none bytes given b ascii h = record {
       ∙ ap (λ p. (given ++ b ∷ []) ++ characters_behind 0 (p ++ more)) (sym none)
       ∙ ap (λ s. (given ++ b ∷ []) ++ ahead_at s (decoder.pending.items ++ more)) (sym within);
 }
-
--- where nothing is pending, bytes that are a character whatever follows are read as it
-pub settled_reads : (decoder : Decoder) (sequence : List ℕ) (c : ℕ) → is_pending decoder ≡ false
-    → ((more : List ℕ) → characters_behind 0 (sequence ++ more) ≡ c ∷ characters_behind 0 more) → ReadsAs decoder sequence c
-settled_reads decoder sequence c settled is = by_parts decoder.stage decoder.pending.items refl refl settled where
-  read : decoder.stage ≡ Within → decoder.pending.items ≡ [] → ReadsAs decoder sequence c
-  read within none bytes given h = record {
-    can = h.can;
-    gives = λ more.
-        ap characters_of (append_assoc bytes sequence more)
-        ∙ h.gives (sequence ++ more)
-        ∙ ap (λ s. given ++ ahead_at s (decoder.pending.items ++ (sequence ++ more))) within
-        ∙ ap (λ p. given ++ characters_behind 0 (p ++ (sequence ++ more))) none
-        ∙ ap (λ t. given ++ t) (is more)
-        ∙ sym (append_assoc given (c ∷ []) (characters_behind 0 more))
-        ∙ ap (λ p. (given ++ c ∷ []) ++ characters_behind 0 (p ++ more)) (sym none)
-        ∙ ap (λ s. (given ++ c ∷ []) ++ ahead_at s (decoder.pending.items ++ more)) (sym within);
-  }
-
-  by_parts : (stage : Stage) (items : List ℕ) → decoder.stage ≡ stage → decoder.pending.items ≡ items → pending_at stage items ≡ false → ReadsAs decoder sequence c
-  by_parts Within [] within none settled = read within none
-  by_parts Within (b ∷ items) within none settled =
-      let some : (length (b ∷ items) == 0) ≡ false = grind (arith, nat_tests) in
-      let lie : not (length (b ∷ items) == 0) ≡ true = ap not some in
-      absurd (cc)
-  by_parts Front items within none settled = absurd (cc)
-  by_parts Finished items within none settled = absurd (cc)
 
 pub settled_passes : (decoder : Decoder) → is_pending decoder ≡ false → PassesAscii decoder
 settled_passes decoder settled = by_parts decoder.stage decoder.pending.items refl refl settled where

@@ -1,6 +1,5 @@
 pub mod Classes
 pub mod Decoding
-pub mod Lending
 pub mod DecoderStages
 pub mod Decoder
 pub mod Runs

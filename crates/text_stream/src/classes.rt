@@ -133,59 +133,57 @@ fn is_mark_digit_or_connector(category: GeneralCategory) -> bool
 mod tests {
     use super::*;
 
+    const LINE_ENDS: &[char] = &['\n', '\r', '\u{2028}', '\u{2029}'];
+
+    const SPACES: &[char] = &[
+        '\t', '\u{0B}', '\u{0C}', ' ', '\u{A0}', '\u{FEFF}', '\u{1680}', '\u{2003}', '\u{202F}',
+        '\u{3000}',
+    ];
+
+    /// One of each category: Lu, Ll, Lt, Lm, Lo, Nl.
+    const NAME_STARTS: &[char] = &[
+        '$', '_', 'A', 'z', '\u{C9}', '\u{E9}', '\u{1C5}', '\u{2B0}', '\u{5D0}', '\u{2160}',
+    ];
+
+    /// One of each category: Mn, Mc, Nd, Pc.
+    const NAME_PARTS: &[char] = &[
+        '0', '9', '\u{300}', '\u{903}', '\u{660}', '\u{203F}', '\u{200C}', '\u{200D}',
+    ];
+
+    /// Among them NEL, ZWSP, marks that enclose, numbers that are no digits, and a letter and a digit
+    /// above U+FFFF.
+    const OTHERS: &[char] = &[
+        '\0',
+        '\u{7F}',
+        '\\',
+        '#',
+        '@',
+        '`',
+        '\u{85}',
+        '\u{180E}',
+        '\u{200B}',
+        '\u{488}',
+        '\u{B2}',
+        '\u{2118}',
+        '\u{E000}',
+        '\u{FFFD}',
+        '\u{FFFF}',
+        '\u{10400}',
+        '\u{1D7CE}',
+        '\u{10FFFF}',
+    ];
+
+    const ROWS: [(&[char], CharClass); 5] = [
+        (LINE_ENDS, CharClass::LineEnd),
+        (SPACES, CharClass::Space),
+        (NAME_STARTS, CharClass::NameStart),
+        (NAME_PARTS, CharClass::NamePart),
+        (OTHERS, CharClass::Other),
+    ];
+
     #[test]
     fn characters_are_of_their_classes(rt: HostRuntime) {
-        let rows: [(&[char], CharClass); 5] = [
-            (&['\n', '\r', '\u{2028}', '\u{2029}'], CharClass::LineEnd),
-            (
-                &[
-                    '\t', '\u{0B}', '\u{0C}', ' ', '\u{A0}', '\u{FEFF}', '\u{1680}', '\u{2003}',
-                    '\u{202F}', '\u{3000}',
-                ],
-                CharClass::Space,
-            ),
-            (
-                // one of each category: Lu, Ll, Lt, Lm, Lo, Nl
-                &[
-                    '$', '_', 'A', 'z', '\u{C9}', '\u{E9}', '\u{1C5}', '\u{2B0}', '\u{5D0}',
-                    '\u{2160}',
-                ],
-                CharClass::NameStart,
-            ),
-            (
-                // one of each category: Mn, Mc, Nd, Pc
-                &[
-                    '0', '9', '\u{300}', '\u{903}', '\u{660}', '\u{203F}', '\u{200C}', '\u{200D}',
-                ],
-                CharClass::NamePart,
-            ),
-            (
-                // among them NEL, ZWSP, marks that enclose, numbers that are no digits, and a letter
-                // and a digit above U+FFFF
-                &[
-                    '\0',
-                    '\u{7F}',
-                    '\\',
-                    '#',
-                    '@',
-                    '`',
-                    '\u{85}',
-                    '\u{180E}',
-                    '\u{200B}',
-                    '\u{488}',
-                    '\u{B2}',
-                    '\u{2118}',
-                    '\u{E000}',
-                    '\u{FFFD}',
-                    '\u{FFFF}',
-                    '\u{10400}',
-                    '\u{1D7CE}',
-                    '\u{10FFFF}',
-                ],
-                CharClass::Other,
-            ),
-        ];
-        for (characters, class) in rows {
+        for (characters, class) in ROWS {
             for c in characters {
                 assert_eq!(rt; class_of(*c), class, "{c:?}");
             }

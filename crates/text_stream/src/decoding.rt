@@ -9,7 +9,6 @@ ghost use Rattle.text_stream.specs.Decoding.{characters_behind, characters_of, f
 
 use bstr::decode_utf8;
 use std::alloc::Global;
-use std::marker::Model;
 
 /// Want of memory.
 #[derive(Clone, Copy, Debug, PartialEq, Eq)]
@@ -32,53 +31,6 @@ pub fn decode_slice(alloc: Global, bytes: &[u8]) -> Result<Vec<char>, NoMemory>
     }
 }
 
-/// Room that is reserved once, for the characters of one text at a time.
-#[derive(Drop)]
-pub struct TextRoom {
-    text: Vec<char>,
-    room: usize,
-}
-
-impl Model for TextRoom {
-    ghost use Rattle.std.specs.Prelude.{ℕ, ◌≤◌, vec_capacity};
-
-    ghost Value = { ℕ };
-
-    // The characters of how many bytes it has room for.
-    ghost view = { λ r. r.room };
-
-    ghost invariant = { λ r. r.room ≤ vec_capacity r.text };
-}
-
-impl TextRoom {
-    ghost use Rattle.std.specs.Borrow.{sem};
-    ghost use Rattle.text_stream.specs.Lending.{KeepsRoom};
-
-    /// Reserves one character for each of `bytes` bytes; [`NoMemory`] where that much memory can't
-    /// be had.
-    pub fn open(alloc: Global, bytes: usize) -> Result<TextRoom, NoMemory>
-        ensures { IfOk result (λ room. room ≡ bytes) }
-    {
-        match Vec::with_capacity(alloc, bytes) {
-            Ok(text) => Ok(TextRoom { text, room: bytes }),
-            Err(_) => Err(NoMemory),
-        }
-    }
-
-    /// The characters of the bytes, of which there are at most as many as were reserved for. It
-    /// takes no memory.
-    #[tactic(auto, unfolding(crate::specs::Decoding::characters_of))]
-    pub fn decode(&mut self, bytes: &[u8]) -> &[char]
-        requires { length bytes.now ≤ self.old }
-        ensures value { result.now ≡ characters_of bytes.now }
-        ensures* kept { sem 𝓛 (KeepsRoom self.entry) }
-    {
-        self.text.clear();
-        append_characters(&mut self.text, without_mark(bytes));
-        self.text.as_slice()
-    }
-}
-
 /// The bytes without one byte order mark at their front.
 fn without_mark(bytes: &[u8]) -> &[u8]
     ensures value { result.now ≡ without_mark bytes.now }
@@ -94,8 +46,7 @@ fn without_mark(bytes: &[u8]) -> &[u8]
 /// Appends the characters of the bytes, for which there is room.
 fn append_characters(text: &mut Vec<char>, bytes: &[u8])
     requires { vec_len text.old + length bytes.now ≤ vec_capacity text.old }
-    ensures items { text.new.items ≡ text.old.items ++ characters_behind 0 bytes.now }
-    ensures capacity { vec_capacity text.old ≤ vec_capacity text.new }
+    ensures { text.new.items ≡ text.old.items ++ characters_behind 0 bytes.now }
 {
     let mut rest = bytes;
     'reading: while !rest.is_empty() {
@@ -136,58 +87,42 @@ mod tests {
     use super::*;
     use std::test::Fail;
 
-    #[test]
-    fn bytes_are_read_as_characters(rt: HostRuntime) -> Result<(), Fail> {
-        let rows: [(&[u8], &[char]); 21] = [
-            (b"", &[]),
-            (b"a\0\x7f", &['a', '\0', '\u{7F}']),
-            (b"\xC3\xA9\xE2\x80\xA8", &['\u{E9}', '\u{2028}']),
-            (b"\xF0\x9F\x98\x80", &['\u{1F600}']),
-            (b"\xF4\x8F\xBF\xBF\xEF\xBF\xBD", &['\u{10FFFF}', '\u{FFFD}']),
-            // one byte order mark is dropped
-            (b"\xEF\xBB\xBFa", &['a']),
-            (b"\xEF\xBB\xBF1", &['1']),
-            (b"\xEF\xBB\xBF", &[]),
-            (b"\xEF\xBB\xBF\xEF\xBB\xBF1", &['\u{FEFF}', '1']),
-            (b"a\xEF\xBB\xBF", &['a', '\u{FEFF}']),
-            // sequences that break off
-            (b"\xF0\x9F\x98A", &['\u{FFFD}', '\u{FFFD}', '\u{FFFD}', 'A']),
-            (b"\xEF\xBB", &['\u{FFFD}', '\u{FFFD}']),
-            (b"\xE2\x80\xC3\xA9", &['\u{FFFD}', '\u{FFFD}', '\u{E9}']),
-            // bytes that begin nothing
-            (b"\x80a\xBF", &['\u{FFFD}', 'a', '\u{FFFD}']),
-            (b"\xF5\xFF", &['\u{FFFD}', '\u{FFFD}']),
-            // overlong forms
-            (b"\xC0\x80", &['\u{FFFD}', '\u{FFFD}']),
-            (b"\xE0\x9F\xBF", &['\u{FFFD}', '\u{FFFD}', '\u{FFFD}']),
-            (
-                b"\xF0\x8F\xBF\xBF",
-                &['\u{FFFD}', '\u{FFFD}', '\u{FFFD}', '\u{FFFD}'],
-            ),
-            // a surrogate, and what is past the last code point
-            (b"\xED\xA0\x80", &['\u{FFFD}', '\u{FFFD}', '\u{FFFD}']),
-            (b"\xED\x9F\xBF", &['\u{D7FF}']),
-            (
-                b"\xF4\x90\x80\x80",
-                &['\u{FFFD}', '\u{FFFD}', '\u{FFFD}', '\u{FFFD}'],
-            ),
-        ];
-        for (bytes, characters) in rows {
-            let text = decode_slice(rt.alloc(), bytes)?;
-            assert!(rt; text.as_slice() == characters, "{bytes:?}");
-            let mut room = TextRoom::open(rt.alloc(), bytes.len())?;
-            assert!(rt; room.decode(bytes) == characters, "{bytes:?} in a room");
-        }
-        Ok(())
-    }
+    /// Bytes, and the characters that they are.
+    const ROWS: [(&[u8], &[char]); 21] = [
+        (b"", &[]),
+        (b"a\0\x7f", &['a', '\0', '\u{7F}']),
+        (b"\xC3\xA9\xE2\x80\xA8", &['\u{E9}', '\u{2028}']),
+        (b"\xF0\x9F\x98\x80", &['\u{1F600}']),
+        (b"\xF4\x8F\xBF\xBF\xEF\xBF\xBD", &['\u{10FFFF}', '\u{FFFD}']),
+        // one byte order mark is dropped
+        (b"\xEF\xBB\xBFa", &['a']),
+        (b"\xEF\xBB\xBF1", &['1']),
+        (b"\xEF\xBB\xBF", &[]),
+        (b"\xEF\xBB\xBF\xEF\xBB\xBF1", &['\u{FEFF}', '1']),
+        (b"a\xEF\xBB\xBF", &['a', '\u{FEFF}']),
+        // sequences that break off
+        (b"\xF0\x9F\x98A", &['\u{FFFD}', '\u{FFFD}', '\u{FFFD}', 'A']),
+        (b"\xEF\xBB", &['\u{FFFD}', '\u{FFFD}']),
+        (b"\xE2\x80\xC3\xA9", &['\u{FFFD}', '\u{FFFD}', '\u{E9}']),
+        // bytes that begin nothing
+        (b"\x80a\xBF", &['\u{FFFD}', 'a', '\u{FFFD}']),
+        (b"\xF5\xFF", &['\u{FFFD}'; 2]),
+        // overlong forms
+        (b"\xC0\x80", &['\u{FFFD}'; 2]),
+        (b"\xE0\x9F\xBF", &['\u{FFFD}'; 3]),
+        (b"\xF0\x8F\xBF\xBF", &['\u{FFFD}'; 4]),
+        // a surrogate, and what is past the last code point
+        (b"\xED\xA0\x80", &['\u{FFFD}'; 3]),
+        (b"\xED\x9F\xBF", &['\u{D7FF}']),
+        (b"\xF4\x90\x80\x80", &['\u{FFFD}'; 4]),
+    ];
 
     #[test]
-    fn a_room_takes_one_text_after_another(rt: HostRuntime) -> Result<(), Fail> {
-        let mut room = TextRoom::open(rt.alloc(), 4)?;
-        assert!(rt; room.decode(b"abcd") == ['a', 'b', 'c', 'd'].as_slice());
-        assert!(rt; room.decode(b"\xEF\xBB\xBFe") == ['e'].as_slice());
-        assert!(rt; room.decode(b"").is_empty());
-        assert!(rt; room.decode(b"\xFF\xFF\xFF\xFF") == ['\u{FFFD}'; 4].as_slice());
+    fn bytes_are_read_as_characters(rt: HostRuntime) -> Result<(), Fail> {
+        for (bytes, characters) in ROWS {
+            let text = decode_slice(rt.alloc(), bytes)?;
+            assert!(rt; text.as_slice() == characters, "{bytes:?}");
+        }
         Ok(())
     }
 }

@@ -2,8 +2,7 @@
 //!
 //! `specs/Decoding` defines the characters of bytes as UTF-8, and `specs/Classes` the classes. A
 //! broken sequence reads as one U+FFFD for each of its bytes, so that what a byte reads as never
-//! hangs on more than the three bytes behind it. Only [`decode_slice`] and [`TextRoom::open`] take
-//! memory.
+//! hangs on more than the three bytes behind it. Only [`decode_slice`] takes memory.
 #![tactic(auto)]
 
 mod classes;
@@ -14,6 +13,6 @@ mod runs;
 
 pub use classes::{CharClass, class_of};
 pub use decoder::Decoder;
-pub use decoding::{NoMemory, TextRoom, decode_slice};
+pub use decoding::{NoMemory, decode_slice};
 pub use laws::{all_but_three_bytes_are_given, classes_are_sets, text_reads_as_written};
 pub use runs::run_length;

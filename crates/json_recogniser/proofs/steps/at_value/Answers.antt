@@ -1,4 +1,4 @@
-use Rattle.json_recogniser.specs.declared.values.Container.TheVariants.{Array, Object}
+use Rattle.json_recogniser.specs.declared.states.Container.TheVariants.{Array, Object}
 use Rattle.json_recogniser.proofs.ResidualLemmas.{opens}
 use Rattle.json_recogniser.proofs.steps.at_value.Goals as goal
 

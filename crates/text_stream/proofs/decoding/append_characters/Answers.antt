@@ -8,8 +8,8 @@ reading-preserved c =
     let some : 0 < length c.reading.rest.now = grind (arith, nat_tests) in
     let read = reads_on _ _ c.reading.rest.now c.first_character-c.result.0 c.first_character-c.result.1 some
     c.first_character-c.ensures.character c.first_character-c.ensures.size c.reading.invariant.0 in
-    (rw (c.append.ensures.items, c.split_at.ensures.back) read, omega arith, omega arith)
+    (rw (c.append.ensures.items, c.split_at.ensures.back) read, omega arith)
 
-pub returns-clause-items : goal.returns-clause-items
-returns-clause-items c =
+pub returns : goal.returns
+returns c =
     let none : length c.reading.rest.now ≡ 0 = eqb-true _ _ (cc) in all_read _ _ c.reading.rest.now none c.reading.invariant.0

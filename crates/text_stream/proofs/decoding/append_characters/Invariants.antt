@@ -7,7 +7,6 @@ abbrev pub invariant-reading : goal.invariant-reading
 invariant-reading l =
     (l.text.items ++ characters_behind 0 l.rest ≡ l.initial.text.items ++ characters_behind 0 l.bytes)
     × (vec_len l.text + length l.rest ≤ vec_capacity l.text)
-    × (vec_capacity l.initial.text ≤ vec_capacity l.text)
 
 abbrev pub decreases-reading : goal.decreases-reading
 decreases-reading l = length l.rest
