@@ -1,22 +1,25 @@
 -- JSON tests: what is read, what is dead, and what is told at the end.
-use Rattle.std.proofs.Common.{◌≡◌, ◌<◌, ℕ, length, get_or, take, arith, Bool, true, false, List, [], ◌∷◌, ◌++◌, Option, None, Some, option_map, refl, sym, ap, ◌∙◌, inl, inr, append_assoc, append-nil}
+use Rattle.std.proofs.Common.{◌≡◌, ◌<◌, ℕ, length, get_or, take, arith, Bool, true, false, List, [], ◌∷◌, ◌++◌, Option, None, Some, option_map, refl, sym, ap, ◌∙◌, inl, inr, append_assoc, append-nil, reverse}
 use Rattle.std.specs.List.{list_all}
 use Rattle.std.proofs.lemmas.Bool.{and_parts, cases_Bool}
 use Rattle.text_stream.specs.Decoding.{characters_of}
-use Rattle.text_stream.specs.Decoder.{PassesAscii, ReadsAs, ahead, HasRead as DecoderHasRead}
+use Rattle.text_stream.specs.Decoder.{PassesAscii, ahead, HasRead as DecoderHasRead}
+use Rattle.text_stream.specs.declared.decoder.Decoder.{Decoder}
+use Rattle.std.specs.Char.{is_ascii}
+use Rattle.std.proofs.lemmas.Bool.Decides.{nat_tests}
 use Rattle.json_recogniser.specs.declared.states.Container.{Container}
 use Rattle.json_recogniser.specs.declared.states.State.{State}
 use Rattle.json_recogniser.specs.declared.states.State.TheVariants as state
 use Rattle.json_recogniser.specs.declared.json_test.JsonTest.{JsonTest}
-use Rattle.json_recogniser.specs.Grammar.{IsJson}
+use Rattle.json_recogniser.specs.declared.machine.Machine.{Machine}
+use Rattle.json_recogniser.proofs.RunLemmas.{text_run}
+use Rattle.json_recogniser.specs.Grammar.{IsJson, is_unescaped}
 use Rattle.json_recogniser.specs.Reading.{behind_spaces, behind_value}
-use Rattle.json_recogniser.specs.Residuals.{residual, is_json, is_nothing, is_dead_state, through, after_residual}
+use Rattle.json_recogniser.specs.Residuals.{residual, is_json, is_nothing, is_dead_state, is_text_state, through, after_residual}
 use Rattle.json_recogniser.specs.Machines.{comes}
-use Rattle.json_recogniser.specs.Runs.{stays}
 use Rattle.json_recogniser.specs.JsonTest.{IsNever, is_dead, Reads, HasRead}
 use Rattle.json_recogniser.proofs.Soundness.{recognised}
 use Rattle.json_recogniser.proofs.Completeness.{complete}
-use Rattle.json_recogniser.proofs.RunLemmas.{stay, run_ascii}
 
 -- ---- the test of a whole text
 
@@ -83,30 +86,6 @@ told test bytes ending result is ends h =
 
 -- ---- bytes
 
-pub byte_passed : (test : JsonTest) (bytes : List ℕ) (b : ℕ) → PassesAscii test.decoder → stays test.machine.state b ≡ true
-    → HasRead test bytes → HasRead test (bytes ++ b ∷ [])
-byte_passed test bytes b passes is h = record {
-  dead = λ dead. never_more bytes (b ∷ []) (h.dead dead);
-  alive = λ lives.
-      let reads = h.alive lives in
-      record {
-        given = reads.given ++ b ∷ [];
-        decoder = passes bytes reads.given b (run_ascii test.machine.state b is) reads.decoder;
-        machine = λ text.
-            sym (stay test.machine.state _ b text is) ∙ reads.machine (b ∷ text)
-            ∙ ap is_json (sym (append_assoc reads.given (b ∷ []) text));
-      };
-}
-
-pub run_passed : (test : JsonTest) (bytes run : List ℕ) → PassesAscii test.decoder → list_all (stays test.machine.state) run ≡ true
-    → HasRead test bytes → HasRead test (bytes ++ run)
-run_passed test bytes [] passes all h = rw (append-nil bytes) h
-run_passed test bytes (b ∷ run) passes all h =
-    let parts = and_parts (stays test.machine.state b) (list_all (stays test.machine.state) run) all in
-    let one = byte_passed test bytes b passes parts.0 h in
-    let more = run_passed test (bytes ++ b ∷ []) run passes parts.1 one in
-    rw (append_assoc bytes (b ∷ []) run) at more
-
 pub read_on : (old new : JsonTest) (bytes given : List ℕ) (b : ℕ)
     → ((b' g : List ℕ) → DecoderHasRead old.decoder b' g → DecoderHasRead new.decoder (b' ++ b ∷ []) (g ++ given))
     → ((text : List ℕ) → comes new.machine text ≡ comes old.machine (given ++ text))
@@ -118,14 +97,34 @@ read_on old new bytes given b decodes goes reads = record {
 }
 
 -- some bytes read at once
-pub sequence_read : (old new : JsonTest) (bytes sequence : List ℕ) (c : ℕ) → new.decoder ≡ old.decoder → ReadsAs old.decoder sequence c
-    → ((text : List ℕ) → comes new.machine text ≡ comes old.machine (c ∷ text))
-    → Reads old bytes → Reads new (bytes ++ sequence)
-sequence_read old new bytes sequence c same reads_as goes reads = record {
-  given = reads.given ++ c ∷ [];
-  decoder = rw same (reads_as bytes reads.given reads.decoder);
-  machine = λ text. goes text ∙ reads.machine (c ∷ text) ∙ ap is_json (sym (append_assoc reads.given (c ∷ []) text));
+pub text_read : (old new : JsonTest) (bytes run given : List ℕ) → new.decoder ≡ old.decoder
+    → ((before g : List ℕ) → DecoderHasRead old.decoder before g → DecoderHasRead old.decoder (before ++ run) (g ++ given))
+    → ((text : List ℕ) → comes new.machine text ≡ comes old.machine (given ++ text))
+    → Reads old bytes → Reads new (bytes ++ run)
+text_read old new bytes run given same decodes goes reads = record {
+  given = reads.given ++ given;
+  decoder = rw same (decodes bytes reads.given reads.decoder);
+  machine = λ text. goes text ∙ reads.machine (given ++ text) ∙ ap is_json (sym (append_assoc reads.given given text));
 }
+
+-- ASCII characters, given one by one
+pub ascii_read : (decoder : Decoder) (bytes given run : List ℕ) → PassesAscii decoder → list_all is_ascii run ≡ true
+    → DecoderHasRead decoder bytes given → DecoderHasRead decoder (bytes ++ run) (given ++ run)
+ascii_read decoder bytes given [] passes all read = rw (append-nil bytes, append-nil given) read
+ascii_read decoder bytes given (b ∷ run) passes all read =
+    let parts = and_parts (is_ascii b) (list_all is_ascii run) all in
+    let small : b < 128 = grind (arith, nat_tests) in
+    let more = ascii_read decoder (bytes ++ b ∷ []) (given ++ b ∷ []) run passes parts.1 (passes bytes given b small read) in
+    rw (append_assoc bytes (b ∷ []) run, append_assoc given (b ∷ []) run) at more
+
+-- characters that stand for themselves in a string
+pub text_comes : (machine : Machine) (run text : List ℕ) → is_text_state machine.state ≡ true → list_all is_unescaped run ≡ true
+    → comes machine (run ++ text) ≡ comes machine text
+text_comes machine run text at all = by_state machine.state at
+  where
+    by_state : (s : State) → is_text_state s ≡ true → residual s (reverse machine.marks.items) (run ++ text) ≡ residual s (reverse machine.marks.items) text
+    by_state (state.Text r) at = text_run r (reverse machine.marks.items) run text all
+    by_state s at = absurd (cc)
 
 -- the first byte alone
 pub first_alone : (piece : List ℕ) → 0 < length piece → get_or piece 0 0 ∷ [] ≡ take 1 piece

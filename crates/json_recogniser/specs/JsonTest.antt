@@ -1,11 +1,10 @@
 -- JSON tests: what one knows of the bytes that were read.
-use Rattle.std.specs.Prelude.{◌≡◌, ℕ, Bool, true, false, not, ◌&&◌, List, ◌++◌}
+use Rattle.std.specs.Prelude.{◌≡◌, ℕ, Bool, true, false, List, ◌++◌}
 use Rattle.text_stream.specs.Decoding.{characters_of}
-use Rattle.text_stream.specs.Decoder.{is_pending, HasRead as DecoderHasRead}
+use Rattle.text_stream.specs.Decoder.{HasRead as DecoderHasRead}
 use Rattle.json_recogniser.specs.declared.json_test.JsonTest.{JsonTest}
 use Rattle.json_recogniser.specs.Residuals.{is_json, is_dead_state}
 use Rattle.json_recogniser.specs.Machines.{comes}
-use Rattle.json_recogniser.specs.Runs.{stays}
 
 -- the bytes are no JSON text, whatever follows
 abbrev pub IsNever : List ℕ → Type 0
@@ -14,10 +13,6 @@ IsNever bytes = (more : List ℕ) → is_json (characters_of (bytes ++ more)) �
 -- the test has seen that
 abbrev pub is_dead : JsonTest → Bool
 is_dead test = is_dead_state test.machine.state
-
--- the byte is an ASCII character that leaves the test as it is
-abbrev pub passes : JsonTest → ℕ → Bool
-passes test b = not (is_pending test.decoder) && stays test.machine.state b
 
 -- the decoder has read the bytes, and the machine the characters that it gave
 pub record Reads (test : JsonTest) (bytes : List ℕ) : Type 0 where

@@ -146,3 +146,7 @@ may_end s = false
 abbrev pub is_dead_state : State → Bool
 is_dead_state state.Dead = true
 is_dead_state s = false
+
+abbrev pub is_text_state : State → Bool
+is_text_state (state.Text r) = true
+is_text_state s = false

@@ -3,18 +3,16 @@
 //! **What it is made of.** A decoder, which gives the characters of the bytes, and a machine over them. Bytes below 128 go
 //! to the machine at once where the decoder has nothing pending.
 //!
-//! **Why one call looks ahead.** [`JsonTest::run_length`] says how many of the next bytes change nothing, so that `feed` passes
-//! them without a step each.
+//! **Why it looks ahead in a string.** Bytes before an ASCII character are characters by themselves, and in a string all but three
+//! kinds of character stand for themselves. So those from 128 on are passed there without being decoded.
 ghost use Rattle.std.specs.Prelude.{◌≡◌, ◌<◌, ◌≤◌, ◌↔◌, ◌&&◌, not, nat_lt, ◌∷◌, ◌++◌, [], ℕ, List, IsTrue, true, length, take};
-ghost use Rattle.std.specs.List.{prefix_len};
 ghost use Rattle.text_stream.specs.Decoder.{CanDecode, is_pending};
 ghost use Rattle.text_stream.specs.Decoding.{characters_of};
 ghost use Rattle.json_recogniser.specs.Grammar.{IsJson};
 
 use crate::machine::Machine;
-use crate::runs::staying;
-use crate::states::State;
-use text_stream::{Decoder, run_length};
+use crate::runs::text_length;
+use text_stream::Decoder;
 
 /// Reads bytes in whatever pieces they come, and tells whether they are a JSON text of at most 1,024 levels. It has a fixed
 /// size: one mark for each bracket that is open.
@@ -26,7 +24,7 @@ pub struct JsonTest {
 }
 
 impl JsonTest {
-    ghost use Rattle.json_recogniser.specs.JsonTest.{HasRead, Reads, is_dead, passes};
+    ghost use Rattle.json_recogniser.specs.JsonTest.{HasRead, Reads, is_dead};
 
     /// A test that has read nothing.
     pub fn new() -> JsonTest
@@ -45,26 +43,11 @@ impl JsonTest {
     {
         let mut rest = piece;
         'bytes: while !self.is_dead() {
-            let left = rest.split_at(self.run_length(rest)).1;
+            let left = rest.split_at(self.feed_ascii(rest)).1;
             if left.is_empty() {
                 return;
             }
-            rest = left.split_at(self.feed_first(left)).1;
-        }
-    }
-
-    /// How many of the next bytes are ASCII characters that leave the test as it is, as in a string, up to the first that isn't
-    /// one.
-    #[inline]
-    pub fn run_length(&self, piece: &[u8]) -> usize
-        ensures longest { result ≡ prefix_len (passes self.now) piece.now }
-        ensures within { result ≤ length piece.now }
-        ensures reads { (bytes : List ℕ) → HasRead self.now bytes → HasRead self.now (bytes ++ take result piece.now) }
-    {
-        if self.decoder.is_pending() {
-            0
-        } else {
-            run_length(staying(self.machine.state()), piece)
+            rest = left.split_at(self.feed_others(left)).1;
         }
     }
 
@@ -82,41 +65,51 @@ impl JsonTest {
         ensures value { result ≡ is_dead self.now }
         ensures never { (bytes more : List ℕ) → HasRead self.now bytes → IsTrue result → ¬ IsJson (characters_of (bytes ++ more)) }
     {
-        matches!(self.machine.state(), State::Dead)
+        self.machine.is_dead()
     }
 
-    /// Reads the byte at the front of the piece, or the whole sequence there, and says how many bytes these are.
-    fn feed_first(&mut self, piece: &[u8]) -> usize
-        requires { 0 < length piece.now }
-        ensures some { 0 < result }
+    /// Reads the ASCII characters at the beginning of the piece, where nothing is pending, and says how many these are.
+    #[inline]
+    fn feed_ascii(&mut self, piece: &[u8]) -> usize
         ensures within { result ≤ length piece.now }
         ensures reads { (bytes : List ℕ) → Reads self.old bytes → Reads self.new (bytes ++ take result piece.now) }
     {
-        if piece[0].is_ascii() {
-            self.feed_byte(piece[0]);
-            1
+        if self.decoder.is_pending() {
+            0
         } else {
-            self.feed_sequence(piece)
+            self.machine.take_ascii(piece)
         }
     }
 
-    /// Reads the whole sequence at the front of the piece, or the first byte where there is none.
+    /// Reads the byte at the beginning of the piece, in a string those up to an ASCII character that ends it or may, and says how
+    /// many these are.
     #[inline(never)]
-    fn feed_sequence(&mut self, piece: &[u8]) -> usize
+    fn feed_others(&mut self, piece: &[u8]) -> usize
         requires { 0 < length piece.now }
         ensures some { 0 < result }
         ensures within { result ≤ length piece.now }
         ensures reads { (bytes : List ℕ) → Reads self.old bytes → Reads self.new (bytes ++ take result piece.now) }
     {
-        match self.decoder.whole_character(piece) {
-            Some((c, size)) => {
-                self.machine.take(c);
-                size
-            }
-            None => {
-                self.feed_byte(piece[0]);
-                1
-            }
+        if self.decoder.is_pending() || !self.machine.is_in_text() {
+            self.feed_byte(piece[0]);
+            return 1;
+        }
+        let run = text_length(piece);
+        if run < piece.len() {
+            self.machine.take(piece[run] as char);
+            run + 1
+        } else {
+            self.feed_all(piece);
+            run
+        }
+    }
+
+    /// Reads the bytes, one after the other.
+    fn feed_all(&mut self, bytes: &[u8])
+        ensures { (before : List ℕ) → Reads self.old before → Reads self.new (before ++ bytes.now) }
+    {
+        for b in bytes {
+            self.feed_byte(*b);
         }
     }
 

@@ -1,7 +1,10 @@
 //! The machine: a state, and a mark for each array and object that is open.
-ghost use Rattle.std.specs.Prelude.{◌≡◌, ◌∷◌, ◌++◌, [], ℕ, List};
-ghost use Rattle.json_recogniser.specs.Residuals.{is_json, may_end};
+ghost use Rattle.std.specs.Prelude.{◌≡◌, ◌≤◌, ◌∷◌, ◌++◌, [], ℕ, List, true, length, take};
+ghost use Rattle.std.specs.List.{list_all};
+ghost use Rattle.std.specs.Char.{is_ascii};
+ghost use Rattle.json_recogniser.specs.Residuals.{is_json, may_end, is_dead_state, is_text_state};
 
+use crate::runs::pass;
 use crate::states::{Container, MOST_LEVELS, Move, Part, State};
 use crate::steps::next;
 use arrayvec::ArrayVec;
@@ -62,6 +65,47 @@ impl Machine {
         }
     }
 
+    /// Goes on by the ASCII characters at the beginning of the piece, and says how many these are. It stops where no text can
+    /// come any more.
+    pub fn take_ascii(&mut self, piece: &[u8]) -> usize
+        ensures within { result ≤ length piece.now }
+        ensures ascii { list_all is_ascii (take result piece.now) ≡ true }
+        ensures comes { (text : List ℕ) → comes self.new text ≡ comes self.old (take result piece.now ++ text) }
+    {
+        let mut count = 0;
+        'bytes: while count < piece.len() && piece[count].is_ascii() && !self.is_dead() {
+            self.take(piece[count] as char);
+            count += 1;
+            count += self.pass(piece.split_at(count).1);
+        }
+        count
+    }
+
+    /// Goes on by characters at the beginning of the piece that open and close nothing, and says how many these are.
+    fn pass(&mut self, piece: &[u8]) -> usize
+        ensures within { result ≤ length piece.now }
+        ensures ascii { list_all is_ascii (take result piece.now) ≡ true }
+        ensures comes { (text : List ℕ) → comes self.new text ≡ comes self.old (take result piece.now ++ text) }
+    {
+        let (state, count) = pass(self.state, piece);
+        self.state = state;
+        count
+    }
+
+    /// Whether no text can come any more.
+    pub fn is_dead(&self) -> bool
+        ensures { result ≡ is_dead_state self.now.state }
+    {
+        matches!(self.state, State::Dead)
+    }
+
+    /// Whether it stands in a string.
+    pub fn is_in_text(&self) -> bool
+        ensures { result ≡ is_text_state self.now.state }
+    {
+        matches!(self.state, State::Text(_))
+    }
+
     /// Goes on by the characters.
     pub fn take_all(&mut self, text: &[char])
         ensures { (more : List ℕ) → comes self.new more ≡ comes self.old (text.now ++ more) }
@@ -76,13 +120,6 @@ impl Machine {
         ensures { result ≡ comes self.now [] }
     {
         may_end(self.state) && self.marks.is_empty()
-    }
-
-    /// Where the machine stands.
-    pub fn state(&self) -> State
-        ensures { result ≡ self.now.state }
-    {
-        self.state
     }
 }
 

@@ -271,21 +271,3 @@ fn a_test_is_dead_once_nothing_can_follow(rt: HostRuntime) {
         assert!(rt; !dead || test.is_dead(), "{bytes:?} for good");
     }
 }
-
-#[test]
-fn runs_end_where_the_state_changes(rt: HostRuntime) {
-    let rows: [(&[u8], &[u8], usize); 7] = [
-        (b"\"", b"abc\"", 3),
-        (b"\"", b"a\\", 1),
-        (b"\"", b"a\xC3\xA9", 1),
-        (b"[", b" \t\r\n1", 4),
-        (b"1", b"23.5", 2),
-        (b"\"\xC3", b"abc", 0),
-        (b"", b"  ", 0),
-    ];
-    for (fed, piece, length) in rows {
-        let mut test = JsonTest::new();
-        test.feed(fed);
-        assert_eq!(rt; test.run_length(piece), length, "{fed:?}");
-    }
-}

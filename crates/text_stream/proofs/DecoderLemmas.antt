@@ -1,15 +1,16 @@
 -- Bytes one after the other: when a character is settled, and what a byte order mark changes.
-use Rattle.std.proofs.Common.{◌≡◌, ◌≢◌, ℕ, suc, ◌+◌, ◌<◌, ◌≤◌, Bool, true, false, not, cond, ◌&&◌, ◌==◌, nat_lt, nat_eq, List, [], ◌∷◌, ◌++◌, length, drop, slice_index, Some, ◌⊎◌, inl, inr, refl, sym, ap, ◌∙◌, append_assoc, length-append, arith}
+use Rattle.std.proofs.Common.{◌≡◌, ◌≢◌, ℕ, zero, suc, ◌+◌, ◌-◌, ◌<◌, ◌≤◌, Bool, true, false, not, cond, ◌&&◌, ◌==◌, nat_lt, nat_eq, List, [], ◌∷◌, ◌++◌, length, drop, slice_index, Some, None, Option, ◌⊎◌, inl, inr, ⊎_elim, subst, refl, sym, ap, ◌∙◌, append_assoc, length-append, length-drop, arith}
 use Rattle.std.specs.List.{starts_with}
-use Rattle.std.proofs.lemmas.Bool.{and_parts, eqb-true, false_from_ne_true}
+use Rattle.std.proofs.lemmas.Bool.{cases_lt, and_parts, eqb-true, false_from_ne_true}
 use Rattle.std.proofs.lemmas.Bool.Decides.{nat_tests}
-use Rattle.std.proofs.lemmas.List.{drop-append-le}
+use Rattle.std.proofs.lemmas.List.{drop-append-le, get_or_append_left}
+use Rattle.bstr.proofs.lemmas.PieceLemmas.{piece-bounds, tail-continues, decoded_by-cut}
 use Rattle.bstr.specs.Utf8.{Decoded, decoded, decoded_by, bad, good, second, continues, code_of_2, code_of_3, or_replacement}
-use Rattle.text_stream.specs.Decoding.{further_bytes, characters_behind, characters_of, byte_order_mark}
+use Rattle.text_stream.specs.Decoding.{further_bytes, further_bytes_of, characters_behind, characters_of, byte_order_mark}
 use Rattle.text_stream.specs.declared.decoder.Stage.{Stage}
 use Rattle.text_stream.specs.declared.decoder.Stage.TheVariants.{Front, Within, Finished}
 use Rattle.text_stream.specs.declared.decoder.Decoder.{Decoder}
-use Rattle.text_stream.specs.Decoder.{HasRead, PassesAscii, GivesAllButThree, ahead_at, pending_at, is_pending}
+use Rattle.text_stream.specs.Decoder.{HasRead, PassesAscii, PassesText, GivesAllButThree, ahead_at, pending_at, is_pending}
 use Rattle.text_stream.specs.DecoderStages.{most_pending}
 use Rattle.text_stream.proofs.DecodingLemmas.{characters_behind-first}
 
@@ -194,6 +195,80 @@ passes_ascii decoder within none bytes given b ascii h = record {
       ∙ sym (append_assoc given (b ∷ []) (characters_behind 0 more))
       ∙ ap (λ p. (given ++ b ∷ []) ++ characters_behind 0 (p ++ more)) (sym none)
       ∙ ap (λ s. (given ++ b ∷ []) ++ ahead_at s (decoder.pending.items ++ more)) (sym within);
+}
+
+-- ---- bytes before one below 128
+
+-- no sequence goes on by such a byte
+ends_before : (xs more : List ℕ) (b : ℕ) → 0 < length xs → b < 128 → (decoded (xs ++ b ∷ more)).size ≤ length xs
+ends_before xs more b some ascii = ⊎_elim (λ over. absurd (no_further xs some over)) (λ within. within) (cases_lt (length xs) (decoded (xs ++ b ∷ more)).size)
+  where
+    other : continues b ≡ false
+    other = grind (arith, nat_tests)
+
+    further : (bs : List ℕ) → (2 ≤ (decoded bs).size → continues (slice_index bs 1) ≡ true)
+        × (3 ≤ (decoded bs).size → continues (slice_index bs 2) ≡ true) × (4 ≤ (decoded bs).size → continues (slice_index bs 3) ≡ true)
+    further bs = tail-continues (length bs) (slice_index bs 0) (slice_index bs 1) (slice_index bs 2) (slice_index bs 3)
+
+    no_further : (xs : List ℕ) → 0 < length xs → length xs < (decoded (xs ++ b ∷ more)).size → ⊥
+    no_further [] some over = omega arith
+    no_further (x ∷ []) some over = let lie : true ≡ false = sym ((further (x ∷ b ∷ more)).0 (omega arith)) ∙ other in absurd (cc)
+    no_further (x ∷ y ∷ []) some over = let lie : true ≡ false = sym ((further (x ∷ y ∷ b ∷ more)).1 (omega arith)) ∙ other in absurd (cc)
+    no_further (x ∷ y ∷ z ∷ []) some over = let lie : true ≡ false = sym ((further (x ∷ y ∷ z ∷ b ∷ more)).2 (omega arith)) ∙ other in absurd (cc)
+    no_further (w ∷ x ∷ y ∷ z ∷ xs) some over =
+        let most = piece-bounds (w ∷ x ∷ y ∷ z ∷ (xs ++ b ∷ more)) (omega arith) in omega (arith, most.1)
+
+-- so what stands there decodes by itself
+decodes_alone : (xs more : List ℕ) (b : ℕ) → 0 < length xs → b < 128 → decoded xs ≡ decoded (xs ++ b ∷ more)
+decodes_alone xs more b some ascii =
+    let bs = xs ++ b ∷ more in
+    let long = length-append xs (b ∷ more) in
+    let at : (k : ℕ) → k < length xs → slice_index xs k ≡ slice_index bs k = λ k l. sym (get_or_append_left xs (b ∷ more) 0 k l) in
+    subst (λ v. decoded_by (length xs) v (slice_index xs 1) (slice_index xs 2) (slice_index xs 3) ≡ decoded bs) (sym (at 0 some))
+    (decoded_by-cut (length xs) (length bs) (slice_index bs 0) (slice_index bs 1) (slice_index bs 2) (slice_index bs 3)
+    (slice_index xs 1) (slice_index xs 2) (slice_index xs 3) (ends_before xs more b some ascii) (omega arith) some (at 1) (at 2) (at 3))
+
+-- a character takes no more bytes than are there
+takes_within : (xs : List ℕ) → 0 < length xs → suc (further_bytes (decoded xs)) ≤ length xs
+takes_within xs some = by_char (decoded xs).char refl
+  where
+    by_char : (o : Option ℕ) → (decoded xs).char ≡ o → suc (further_bytes (decoded xs)) ≤ length xs
+    by_char None is = let none : further_bytes (decoded xs) ≡ 0 = ap (λ o. further_bytes_of o (decoded xs).size) is in omega (arith, none, some)
+    by_char (Some c) is =
+        let bounds = piece-bounds xs some in
+        let further : further_bytes (decoded xs) ≡ (decoded xs).size - 1 = ap (λ o. further_bytes_of o (decoded xs).size) is in
+        omega (arith, bounds.0, bounds.2, further)
+
+read_apart : (n : ℕ) (xs more : List ℕ) (b : ℕ) → length xs ≤ n → b < 128
+    → characters_behind 0 (xs ++ b ∷ more) ≡ characters_behind 0 xs ++ characters_behind 0 (b ∷ more)
+unfolding characters_behind
+read_apart n [] more b few ascii = refl
+read_apart zero (x ∷ xs) more b few ascii = absurd (omega arith)
+read_apart (suc n) (x ∷ xs) more b few ascii =
+    let l = x ∷ xs in
+    let some : 0 < length l = omega arith in
+    let size = suc (further_bytes (decoded l)) in
+    let same = decodes_alone l more b some ascii in
+    let within = takes_within l some in
+    let left = length-drop size l in
+    settled_first l (b ∷ more) (or_replacement (decoded l).char) size some refl (omega arith) within (sym same)
+    ∙ ap (λ t. or_replacement (decoded l).char ∷ t) (read_apart n (drop size l) more b (omega arith) ascii)
+    ∙ ap (λ t. t ++ characters_behind 0 (b ∷ more)) (sym (characters_behind-first l some))
+
+pub passes_text : (decoder : Decoder) → decoder.stage ≡ Within → decoder.pending.items ≡ [] → PassesText decoder
+passes_text decoder within none bytes given text b ascii h = record {
+  can = h.can;
+  gives = λ more.
+      ap characters_of (append_assoc bytes (text ++ b ∷ []) more ∙ ap (λ t. bytes ++ t) (append_assoc text (b ∷ []) more))
+      ∙ h.gives (text ++ b ∷ more)
+      ∙ ap (λ s. given ++ ahead_at s (decoder.pending.items ++ (text ++ b ∷ more))) within
+      ∙ ap (λ p. given ++ characters_behind 0 (p ++ (text ++ b ∷ more))) none
+      ∙ ap (λ t. given ++ t) (read_apart (length text) text more b (omega arith) ascii)
+      ∙ ap (λ t. given ++ (characters_behind 0 text ++ t)) (ascii_first b more ascii)
+      ∙ ap (λ t. given ++ t) (sym (append_assoc (characters_behind 0 text) (b ∷ []) (characters_behind 0 more)))
+      ∙ sym (append_assoc given (characters_behind 0 text ++ b ∷ []) (characters_behind 0 more))
+      ∙ ap (λ p. (given ++ (characters_behind 0 text ++ b ∷ [])) ++ characters_behind 0 (p ++ more)) (sym none)
+      ∙ ap (λ s. (given ++ (characters_behind 0 text ++ b ∷ [])) ++ ahead_at s (decoder.pending.items ++ more)) (sym within);
 }
 
 pub settled_passes : (decoder : Decoder) → is_pending decoder ≡ false → PassesAscii decoder

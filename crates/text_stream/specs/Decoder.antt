@@ -37,10 +37,10 @@ abbrev pub PassesAscii : Decoder → Type 0
 PassesAscii decoder = (bytes given : List ℕ) (b : ℕ) → b < 128 → HasRead decoder bytes given
     → HasRead decoder (bytes ++ b ∷ []) (given ++ b ∷ [])
 
--- bytes are a character
-abbrev pub ReadsAs : Decoder → List ℕ → ℕ → Type 0
-ReadsAs decoder sequence c = (bytes given : List ℕ) → HasRead decoder bytes given
-    → HasRead decoder (bytes ++ sequence) (given ++ c ∷ [])
+-- bytes before one below 128 are the characters that they are by themselves
+abbrev pub PassesText : Decoder → Type 0
+PassesText decoder = (bytes given text : List ℕ) (b : ℕ) → b < 128 → HasRead decoder bytes given
+    → HasRead decoder (bytes ++ (text ++ b ∷ [])) (given ++ (characters_behind 0 text ++ b ∷ []))
 
 -- at most three bytes are pending, at the front or past it: whatever follows, the characters of the whole are those given and
 -- those of these bytes and what follows

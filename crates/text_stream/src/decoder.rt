@@ -35,7 +35,7 @@ pub struct Decoder {
 }
 
 impl Decoder {
-    ghost use Rattle.text_stream.specs.Decoder.{CanDecode, HasRead, PassesAscii, ReadsAs, is_pending};
+    ghost use Rattle.text_stream.specs.Decoder.{CanDecode, HasRead, PassesAscii, PassesText, is_pending};
 
     /// A decoder that has read nothing.
     pub fn new() -> Decoder
@@ -87,58 +87,18 @@ impl Decoder {
         read_all(self.pending.as_slice())
     }
 
-    /// The character at the front of the piece and how many bytes it takes, where these are a whole sequence and nothing is
-    /// pending. Such bytes have been read then without being fed.
-    pub fn whole_character(&self, piece: &[u8]) -> Option<(char, usize)>
-        ensures { MatchOption result Unit (λ front. (0 < front.1) × (front.1 ≤ length piece.now) × ReadsAs self.now (take front.1 piece.now) front.0) }
-    {
-        if self.is_pending() {
-            None
-        } else {
-            whole_sequence(piece)
-        }
-    }
-
-    /// Whether some bytes are pending, or the text hasn't begun. Where it is false, a byte below 128 is its character.
+    /// Whether some bytes are pending, or the text hasn't begun. Where it is false, a byte below 128 is its character, and
+    /// bytes before one are the characters that they are by themselves.
     #[inline]
     pub fn is_pending(&self) -> bool
         ensures value { result ≡ is_pending self.now }
         ensures passes { result ≡ false → PassesAscii self.now }
+        ensures text { result ≡ false → PassesText self.now }
     {
         match self.stage {
             Stage::Within => !self.pending.is_empty(),
             Stage::Front | Stage::Finished => true,
         }
-    }
-}
-
-/// The character at the front of the piece and how many bytes it takes, where these are a whole sequence.
-fn whole_sequence(piece: &[u8]) -> Option<(char, usize)>
-    ensures { MatchOption result Unit (λ front. (0 < front.1) × (front.1 ≤ length piece.now)
-        × ((more : List ℕ) → characters_behind 0 (take front.1 piece.now ++ more) ≡ front.0 ∷ characters_behind 0 more)) }
-{
-    let [b, ..] = piece else { return None };
-    let size = sequence_length(*b);
-    if size > piece.len() {
-        return None;
-    }
-    let sequence = piece.split_at(size).0;
-    match settled_character(sequence) {
-        Some((c, used)) if used == size => Some((c, size)),
-        _ => None,
-    }
-}
-
-/// How many bytes a sequence has that begins with the byte, if one does (Table 3-6).
-fn sequence_length(b: u8) -> usize
-    ensures some { 0 < result }
-    ensures few { result ≤ 4 }
-{
-    match b {
-        0xF0..=0xFF => 4,
-        0xE0..=0xEF => 3,
-        0xC0..=0xDF => 2,
-        _ => 1,
     }
 }
 
