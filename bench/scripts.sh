@@ -174,7 +174,7 @@ impl Reader {
     {
         let mut rest = piece;
         'bytes: while let [b, others @ ..] = rest {
-            let run = if self.decoder.is_pending() { 0 } else { self.lexer.run_length(rest) };
+            let run = if self.decoder.is_pending() { 0 } else { self.lexer.feed_run(rest) };
             if run > 0 {
                 rest = rest.split_at(run).1;
             } else {

@@ -256,3 +256,86 @@ run_ascii s full piece n e = all_ascii s full (take n piece) (run_is s full piec
 
 pub run_within : (s : State) (full : Bool) (piece : List ℕ) (n : ℕ) → n ≡ prefix_len (stays s full) piece → n ≤ length piece
 run_within s full piece n e = let few = prefix_len-le-length (stays s full) piece in omega (arith, few, e)
+
+-- ---- the parts of a name
+
+-- a lexer with other letters
+abbrev pub with_letters : Lexer → Letters → Lexer
+with_letters v l = record { state = v.state; newline = v.newline; letters = l }
+
+-- a name goes on with a part, whose letter is kept where room is left
+pub part_reads : (v u : Lexer) (m : List Mark) (given : List Lexeme) (g : Goal) (c : ℕ) → v.state ≡ Token Name → u.state ≡ Token Name → u.newline ≡ v.newline
+    → u.letters.letters.items ≡ with_letter v.letters.letters.items (letter Name c) → u.letters.escapes ≡ v.letters.escapes → is_part c ≡ true
+    → HasRead v m given → HasRead u (m ++ mark g c ∷ []) given
+part_reads v u m given g c from to line letters escapes part h =
+    subst (λ (x : List Lexeme). HasRead u (m ++ mark g c ∷ []) x) (append_none given)
+    (reads_on v u m given [] g c None h steps (leads g) refl heard)
+  where
+    steps : (read : List ℕ) → Steps v.state read v.newline g c None u.state u.newline
+    steps read =
+        subst (λ (s : State). Steps s read v.newline g c None u.state u.newline) (sym from)
+        (subst (λ (s : State). Steps (Token Name) read v.newline g c None s u.newline) (sym to)
+        (subst (λ (f : Bool). Steps (Token Name) read v.newline g c None (Token Name) f) (sym line) (place_stays Name read v.newline g c refl (name_next c part))))
+
+    leads : (goal : Goal) → Leads v.state goal c None u.state
+    leads goal =
+        subst (λ (s : State). Leads s goal c None u.state) (sym from)
+        (subst (λ (s : State). Leads (Token Name) goal c None s) (sym to)
+        (inl (ap (λ (p : Place). Token p) (sym (name_next c part)), ap is_dead (name_next c part))))
+
+    heard : (goal : Goal) (read : List ℕ) → Leads v.state goal c None u.state → HeardAt v.letters v.state (own v.state read) → HeardAt u.letters u.state (own_after None (own v.state read) c)
+    heard goal read leads at =
+        subst (λ (s : State). HeardAt u.letters s (own_after None (own v.state read) c)) (sym to)
+        (subst (λ (s : State). HeardAt v.letters s (own s read) → HeardAt u.letters (Token Name) (own_after None (own s read) c)) (sym from)
+        (λ (hears : HeardAt v.letters (Token Name) read). subst (λ (p : Place). Hears u.letters.letters.items u.letters.escapes p (c ∷ read)) (name_next c part)
+        (goes_on v.letters.letters.items v.letters.escapes Name read c u.letters.letters.items u.letters.escapes letters (escapes ∙ or_false v.letters.escapes) hears)) at)
+
+-- whatever goal comes with it
+pub part_asks : (v : Lexer) (m : List Mark) (given : List Lexeme) → v.state ≡ Token Name → HasRead v m given
+    → (g h : Goal) (c : ℕ) (w : List Mark) (end : Goal) (tokens : List Lexeme) → Lexes (m ++ mark g c ∷ w) end tokens → Lexes (m ++ mark h c ∷ w) end tokens
+part_asks v m given at r g h c w end tokens l =
+    let x = going v m given r (mark g c ∷ w) end tokens l in
+    subst (λ (z : List Lexeme). Lexes (m ++ mark h c ∷ w) end z) (sym x.is)
+    (coming v m given r (mark h c ∷ w) end x.others
+    (subst (λ (s : State). From s (own v.state r.read) v.newline (mark h c ∷ w) end x.others) (sym at)
+    (token_change Name (own v.state r.read) v.newline g h c w end x.others (subst (λ (s : State). From s (own v.state r.read) v.newline (mark g c ∷ w) end x.others) at x.from))))
+
+-- the last of some marks
+pub record LastOf (u : List ℕ) (c : ℕ) (q : List Mark) : Type 0 where
+  pub before : List Mark
+  pub last : Mark
+  pub is : q ≡ before ++ last ∷ []
+  pub spells : chars before ≡ u
+  pub ends : last.character ≡ c
+
+pub last_of : (u : List ℕ) (c : ℕ) (q : List Mark) → chars q ≡ u ++ c ∷ [] → LastOf u c q
+last_of [] c [] e = absurd cc
+last_of [] c (x ∷ []) e = record { before = []; last = x; is = refl; spells = refl; ends = cc }
+last_of [] c (x ∷ y ∷ q) e = absurd cc
+last_of (d ∷ u) c [] e = absurd cc
+last_of (d ∷ u) c (x ∷ q) e =
+    let head : x.character ≡ d = cc in let tail : chars q ≡ u ++ c ∷ [] = cc in
+    let l = last_of u c q tail in
+    record { before = x ∷ l.before; last = l.last; is = ap (λ (t : List Mark). x ∷ t) l.is; spells = ap (λ (t : List ℕ). x.character ∷ t) l.spells ∙ ap (λ (n : ℕ). n ∷ u) head; ends = l.ends }
+
+pub none_of : (m q : List Mark) → chars q ≡ [] → m ≡ m ++ q
+none_of m [] e = sym (nothing m)
+  where
+    nothing : (w : List Mark) → w ++ [] ≡ w
+    nothing [] = refl
+    nothing (x ∷ w) = ap (λ (u : List Mark). x ∷ u) (nothing w)
+none_of m (x ∷ q) e = absurd cc
+
+pub all_and : (p : ℕ → Bool) (u : List ℕ) (c : ℕ) → list_all p u ≡ true → p c ≡ true → list_all p (u ++ c ∷ []) ≡ true
+all_and p [] c all e = and_both (p c) true e refl
+all_and p (d ∷ u) c all e = and_both (p d) _ (and_left (p d) (list_all p u) all) (all_and p u c (and_right (p d) (list_all p u) all) e)
+
+pub part_letter : (l : List ℕ) (b : ℕ) → nat_lt (length l) 11 ≡ true → is_ascii b ≡ true → is_part b ≡ true → l ++ b ∷ [] ≡ with_letter l (letter Name b)
+part_letter l b room ascii part =
+    else_in (λ (o : Option ℕ). l ++ b ∷ [] ≡ with_letter l o) (b == 92) _ _ (part_no_backslash b (b == 92) refl part)
+    (then_in (λ (x : List ℕ). l ++ b ∷ [] ≡ x) (nat_lt (length l) 11) _ _ room
+    (then_in (λ (k : ℕ). l ++ b ∷ [] ≡ l ++ k ∷ []) (nat_lt b 128) _ _ ascii refl))
+
+pub room_left : (full n : Bool) → full ≡ not n → full ≡ false → n ≡ true
+room_left full true is e = refl
+room_left full false is e = absurd (never full is e)

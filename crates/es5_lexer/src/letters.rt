@@ -2,7 +2,9 @@
 //!
 //! No reserved word has more than ten letters. So eleven of a name's letters, and whether one of them is
 //! written by an escape, tell its token.
-ghost use Rattle.std.specs.Prelude.{◌≡◌, ℕ, List, false, ◌||◌, [], not, nat_lt, length};
+ghost use Rattle.std.specs.Prelude.{◌≡◌, ℕ, List, IsTrue, false, ◌||◌, [], not, nat_lt, length};
+ghost use Rattle.std.specs.Char.{is_ascii};
+ghost use Rattle.es5_lexer.specs.Characters.{is_part};
 ghost use Rattle.es5_lexer.specs.Letters.{kept_letter, with_letter, letter, ends_escape, token_of_letters, HeardAt};
 ghost use Rattle.es5_lexer.specs.Names.{IsName, name_token};
 ghost use Rattle.es5_lexer.specs.Residuals.{Leads, own, own_after};
@@ -68,6 +70,19 @@ impl Letters {
         ensures { result ≡ not (nat_lt (length self.now.letters.items) 11) }
     {
         self.letters.is_full()
+    }
+
+    /// The name goes on with the part.
+    #[inline]
+    pub(crate) fn read_part(&mut self, b: u8)
+        requires ascii { IsTrue (is_ascii b) }
+        requires part { IsTrue (is_part b) }
+        ensures letters { self.new.letters.items ≡ with_letter self.old.letters.items (letter Place.Name b) }
+        ensures escapes { self.new.escapes ≡ self.old.escapes }
+    {
+        if !self.is_full() {
+            self.letters.push(b);
+        }
     }
 
     /// Follows a lexer from a state to the one behind the character.

@@ -16,8 +16,8 @@ ghost use Rattle.es5_lexer.specs.declared.tokens.Goal.{Goal};
 ghost use Rattle.es5_lexer.specs.declared.tokens.Lexeme.{Lexeme};
 
 use crate::letters::Letters;
-use crate::places::Kind;
-use crate::runs::staying;
+use crate::places::{Kind, Place};
+use crate::runs::{is_name_part, staying};
 use crate::states::{State, Step};
 use crate::tokens::{Goal, Lexeme, Token};
 use arrayvec::ArrayVec;
@@ -100,6 +100,38 @@ impl Lexer {
         ensures asks { (m : List Mark) (given : List Lexeme) → HasRead self.now m given → (p q w : List Mark) → chars p ≡ take result piece.now → chars q ≡ take result piece.now → (end : Goal) (tokens : List Lexeme) → Lexes (m ++ (p ++ w)) end tokens → Lexes (m ++ (q ++ w)) end tokens }
     {
         run_length(staying(self.state, self.letters.is_full()), piece)
+    }
+
+    /// Reads the bytes at the beginning of the piece that are ASCII characters and, under whatever goals, neither end a token
+    /// nor begin one: those that leave the lexer as it is, or the parts of a name. Says how many these are.
+    #[inline]
+    pub fn feed_run(&mut self, piece: &[u8]) -> usize
+        ensures within { result ≤ length piece.now }
+        ensures ascii { list_all is_ascii (take result piece.now) ≡ true }
+        ensures reads { (m : List Mark) (given : List Lexeme) → HasRead self.old m given → (q : List Mark) → chars q ≡ take result piece.now → HasRead self.new (m ++ q) given }
+        ensures at_least { (m : List Mark) (given : List Lexeme) → HasRead self.old m given → (q : List Mark) (last : Mark) → chars (q ++ last ∷ []) ≡ take result piece.now → (w : List Mark) (end : Goal) (tokens : List Lexeme) → EndWithin (m ++ q) (last ∷ w) end tokens → (others : List Lexeme) × (given ≡ tokens ++ others) }
+        ensures asks { (m : List Mark) (given : List Lexeme) → HasRead self.old m given → (p q w : List Mark) → chars p ≡ take result piece.now → chars q ≡ take result piece.now → (end : Goal) (tokens : List Lexeme) → Lexes (m ++ (p ++ w)) end tokens → Lexes (m ++ (q ++ w)) end tokens }
+    {
+        match self.state {
+            State::Token(Place::Name) => self.feed_parts(piece),
+            _ => self.run_length(piece),
+        }
+    }
+
+    /// Reads the parts of a name at the beginning of the piece, and says how many these are.
+    fn feed_parts(&mut self, piece: &[u8]) -> usize
+        requires { self.old.state ≡ State.Token Place.Name }
+        ensures within { result ≤ length piece.now }
+        ensures ascii { list_all is_ascii (take result piece.now) ≡ true }
+        ensures reads { (m : List Mark) (given : List Lexeme) → HasRead self.old m given → (q : List Mark) → chars q ≡ take result piece.now → HasRead self.new (m ++ q) given }
+        ensures asks { (m : List Mark) (given : List Lexeme) → HasRead self.old m given → (p q w : List Mark) → chars p ≡ take result piece.now → chars q ≡ take result piece.now → (end : Goal) (tokens : List Lexeme) → Lexes (m ++ (p ++ w)) end tokens → Lexes (m ++ (q ++ w)) end tokens }
+    {
+        let mut count = 0;
+        'parts: while count < piece.len() && is_name_part(piece[count]) {
+            self.letters.read_part(piece[count]);
+            count += 1;
+        }
+        count
     }
 
     /// Appends a token that has ended.

@@ -2,7 +2,9 @@
 //!
 //! Most characters of a script stand in names, white space, comments and strings, where a lexer stays in
 //! its state. A run of them is found by one look-up a byte, in a table for each of these states.
-ghost use Rattle.std.specs.Prelude.{◌≡◌, ◌<◌, ℕ, Bool, false};
+ghost use Rattle.std.specs.Prelude.{◌≡◌, ◌<◌, ◌&&◌, ℕ, Bool, false};
+ghost use Rattle.std.specs.Char.{is_ascii};
+ghost use Rattle.es5_lexer.specs.Characters.{is_part};
 ghost use Rattle.text_stream.specs.Runs.{is_in};
 ghost use Rattle.es5_lexer.specs.Runs.{stays};
 
@@ -54,6 +56,14 @@ fn in_name(is_full: bool) -> &'static [bool; 256]
     ensures { (c : ℕ) → c < 256 → is_in result.now c ≡ stays (State.Token Place.Name) is_full c }
 {
     if is_full { &NAME_PARTS } else { &NOTHING }
+}
+
+/// Whether the byte is an ASCII character that goes on with a name.
+#[inline]
+pub(crate) fn is_name_part(b: u8) -> bool
+    ensures { result ≡ (is_ascii b && is_part b) }
+{
+    NAME_PARTS[usize::from(b)]
 }
 
 /// In a string.

@@ -35,7 +35,7 @@ impl ScriptTest {
     {
         let mut rest = piece;
         'bytes: while !self.reader.is_dead() {
-            match rest.split_at(self.run_length(rest)).1 {
+            match rest.split_at(self.feed_run(rest)).1 {
                 [] => return,
                 [b, others @ ..] => {
                     self.read_byte(*b);
@@ -66,16 +66,18 @@ impl ScriptTest {
 impl ScriptTest {
     ghost use Rattle.es5_machine.specs.ScriptTests.{Reads, is_dead as is_lost};
 
-    /// How many of the next bytes leave the test as it is, as in a comment or a string; those after them may too.
+    /// Reads the bytes at the beginning of the piece that neither end a token nor begin one, as in a comment, a string or a
+    /// name, and says how many these are; those after them may be so too.
     #[inline]
-    fn run_length(&self, piece: &[u8]) -> usize
+    fn feed_run(&mut self, piece: &[u8]) -> usize
         ensures within { result ≤ length piece.now }
-        ensures reads { (m : List ℕ) → Reads self.now m → Reads self.now (m ++ take result piece.now) }
+        ensures reads { (m : List ℕ) → Reads self.old m → Reads self.new (m ++ take result piece.now) }
+        ensures dead { is_lost self.new ≡ is_lost self.old }
     {
         if self.decoder.is_pending() {
             0
         } else {
-            self.reader.run_length(piece)
+            self.reader.feed_run(piece)
         }
     }
 

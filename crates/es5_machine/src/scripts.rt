@@ -47,13 +47,16 @@ impl ScriptReader {
         self.dead
     }
 
-    /// How many of the next bytes are characters that leave the reader as it is.
-    pub(crate) fn run_length(&self, piece: &[u8]) -> usize
+    /// Reads the ASCII characters at the beginning of the piece that neither end a token nor begin one, and says how many
+    /// these are.
+    #[inline]
+    pub(crate) fn feed_run(&mut self, piece: &[u8]) -> usize
         ensures within { result ≤ length piece.now }
         ensures ascii { list_all is_ascii (take result piece.now) ≡ true }
-        ensures reads { (u : List ℕ) → ReaderHasRead self.now u → ReaderHasRead self.now (u ++ take result piece.now) }
+        ensures reads { (u : List ℕ) → ReaderHasRead self.old u → ReaderHasRead self.new (u ++ take result piece.now) }
+        ensures dead { self.new.dead ≡ self.old.dead }
     {
-        self.lexer.run_length(piece)
+        self.lexer.feed_run(piece)
     }
 
     /// Reads one character more.
