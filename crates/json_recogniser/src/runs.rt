@@ -41,7 +41,8 @@ fn pass_text(role: Role, piece: &[u8]) -> (State, usize)
 {
     let run = plain_length(piece);
     if run < piece.len() && piece[run] == b'"' {
-        (after_text(role), run + 1)
+        let (state, more) = after_text(role, piece.split_at(run + 1).1);
+        (state, run + 1 + more)
     } else {
         (State::Text(role), run)
     }
@@ -55,13 +56,15 @@ fn plain_length(piece: &[u8]) -> usize
     run_length(&PLAIN, piece)
 }
 
-/// After a string.
-pub fn after_text(role: Role) -> State
-    ensures { (marks : List AContainer) (text : List ℕ) → residual result marks text ≡ behind_text role marks text }
+/// After a string: the colon, if that was a name.
+fn after_text(role: Role, piece: &[u8]) -> (State, usize)
+    ensures within { result.1 ≤ length piece.now }
+    ensures ascii { list_all is_ascii (take result.1 piece.now) ≡ true }
+    ensures goes { (marks : List AContainer) (text : List ℕ) → residual result.0 marks text ≡ behind_text role marks (take result.1 piece.now ++ text) }
 {
     match role {
-        Role::Name => State::Colon,
-        Role::Value => State::After,
+        Role::Name => pass_colon(piece),
+        Role::Value => (State::After, 0),
     }
 }
 
