@@ -7,12 +7,13 @@ use Rattle.std.specs.Prelude.{◌≡◌, ℕ, suc, ◌≤◌, max, ⊤, Bool, tr
 use Rattle.std.specs.List.{list_all}
 use Rattle.std.specs.Int.{is_in_range}
 use Rattle.std.specs.Char.{is_ascii_digit, is_ascii_hexdigit}
+use Rattle.json_recogniser.specs.Characters.{horizontal_tab, line_feed, carriage_return, space, quotation_mark, plus_sign, comma, minus_sign, full_stop, solidus, digit_zero, digit_one, digit_nine, colon, capital_e, left_square_bracket, reverse_solidus, right_square_bracket, small_b, small_e, small_f, small_n, small_r, small_t, small_u, left_curly_bracket, right_curly_bracket}
 
 -- ---- section 2: white space
 
 -- space, horizontal tab, line feed, carriage return
 abbrev pub is_white_space : ℕ → Bool
-is_white_space c = ((c == 0x20) || (c == 0x09)) || ((c == 0x0A) || (c == 0x0D))
+is_white_space c = ((c == space) || (c == horizontal_tab)) || ((c == line_feed) || (c == carriage_return))
 
 abbrev pub AreSpaces : List ℕ → Type 0
 AreSpaces ws = list_all is_white_space ws ≡ true
@@ -21,7 +22,7 @@ AreSpaces ws = list_all is_white_space ws ≡ true
 
 -- digit1-9
 abbrev pub is_digit_from_1 : ℕ → Bool
-is_digit_from_1 c = is_in_range 0x31 0x39 c
+is_digit_from_1 c = is_in_range digit_one digit_nine c
 
 -- DIGIT of RFC 5234: 0 to 9
 abbrev pub AreDigits : List ℕ → Type 0
@@ -61,11 +62,11 @@ pub record Number : Type 0 where
 
 -- `e`, `E`
 abbrev pub is_e : ℕ → Bool
-is_e c = (c == 0x65) || (c == 0x45)
+is_e c = (c == small_e) || (c == capital_e)
 
 -- `-`, `+`
 abbrev pub is_sign : ℕ → Bool
-is_sign c = (c == 0x2D) || (c == 0x2B)
+is_sign c = (c == minus_sign) || (c == plus_sign)
 
 abbrev pub IsGoodInt : Int → Type 0
 IsGoodInt zero_alone = ⊤
@@ -88,15 +89,15 @@ IsGoodNumber n = IsGoodInt n.int_part × IsGoodFrac n.frac_part × IsGoodExp n.e
 
 abbrev pub minus_text : Minus → List ℕ → List ℕ
 minus_text no_minus rest = rest
-minus_text minus rest = 0x2D ∷ rest
+minus_text minus rest = minus_sign ∷ rest
 
 abbrev pub int_text : Int → List ℕ → List ℕ
-int_text zero_alone rest = 0x30 ∷ rest
+int_text zero_alone rest = digit_zero ∷ rest
 int_text (from_1 d ds) rest = d ∷ (ds ++ rest)
 
 abbrev pub frac_text : Frac → List ℕ → List ℕ
 frac_text no_frac rest = rest
-frac_text (frac d ds) rest = 0x2E ∷ d ∷ (ds ++ rest)
+frac_text (frac d ds) rest = full_stop ∷ d ∷ (ds ++ rest)
 
 abbrev pub sign_text : Sign → List ℕ → List ℕ
 sign_text no_sign rest = rest
@@ -125,8 +126,8 @@ is_unescaped c = (is_in_range 0x20 0x21 c || is_in_range 0x23 0x5B c) || is_in_r
 
 abbrev pub is_escaped : ℕ → Bool
 is_escaped c =
-    (((c == 0x22) || (c == 0x5C)) || ((c == 0x2F) || (c == 0x62)))
-    || (((c == 0x66) || (c == 0x6E)) || ((c == 0x72) || (c == 0x74)))
+    (((c == quotation_mark) || (c == reverse_solidus)) || ((c == solidus) || (c == small_b)))
+    || (((c == small_f) || (c == small_n)) || ((c == small_r) || (c == small_t)))
 
 abbrev pub IsGoodChar : Char → Type 0
 IsGoodChar (unescaped c) = is_unescaped c ≡ true
@@ -140,17 +141,17 @@ AreGoodChars (c ∷ cs) = IsGoodChar c × AreGoodChars cs
 
 abbrev pub char_text : Char → List ℕ → List ℕ
 char_text (unescaped c) rest = c ∷ rest
-char_text (escaped c) rest = 0x5C ∷ c ∷ rest
-char_text (unicode a b c d) rest = 0x5C ∷ 0x75 ∷ a ∷ b ∷ c ∷ d ∷ rest
+char_text (escaped c) rest = reverse_solidus ∷ c ∷ rest
+char_text (unicode a b c d) rest = reverse_solidus ∷ small_u ∷ a ∷ b ∷ c ∷ d ∷ rest
 
 -- *char quotation-mark
 abbrev pub chars_text : List Char → List ℕ → List ℕ
-chars_text [] rest = 0x22 ∷ rest
+chars_text [] rest = quotation_mark ∷ rest
 chars_text (c ∷ cs) rest = char_text c (chars_text cs rest)
 
 -- quotation-mark *char quotation-mark
 abbrev pub string_text : List Char → List ℕ → List ℕ
-string_text cs rest = 0x22 ∷ chars_text cs rest
+string_text cs rest = quotation_mark ∷ chars_text cs rest
 
 -- ---- sections 3 to 5: values, objects, arrays
 
@@ -243,24 +244,24 @@ abbrev mutual
   value_text false_literal rest = codes "false" ++ rest
   value_text null_literal rest = codes "null" ++ rest
   value_text true_literal rest = codes "true" ++ rest
-  value_text (object_of_none ws) rest = 0x7B ∷ (ws ++ (0x7D ∷ rest))
-  value_text (object ms) rest = 0x7B ∷ members_text ms (0x7D ∷ rest)
-  value_text (array_of_none ws) rest = 0x5B ∷ (ws ++ (0x5D ∷ rest))
-  value_text (array es) rest = 0x5B ∷ elements_text es (0x5D ∷ rest)
+  value_text (object_of_none ws) rest = left_curly_bracket ∷ (ws ++ (right_curly_bracket ∷ rest))
+  value_text (object ms) rest = left_curly_bracket ∷ members_text ms (right_curly_bracket ∷ rest)
+  value_text (array_of_none ws) rest = left_square_bracket ∷ (ws ++ (right_square_bracket ∷ rest))
+  value_text (array es) rest = left_square_bracket ∷ elements_text es (right_square_bracket ∷ rest)
   value_text (number n) rest = number_text n rest
   value_text (string cs) rest = string_text cs rest
 
   pub members_text : Members → List ℕ → List ℕ
   members_text (last_member m) rest = member_text m rest
-  members_text (member_and m ms) rest = member_text m (0x2C ∷ members_text ms rest)
+  members_text (member_and m ms) rest = member_text m (comma ∷ members_text ms rest)
 
   pub member_text : Member → List ℕ → List ℕ
   member_text (member before name behind e) rest =
-      before ++ string_text name (behind ++ (0x3A ∷ element_text e rest))
+      before ++ string_text name (behind ++ (colon ∷ element_text e rest))
 
   pub elements_text : Elements → List ℕ → List ℕ
   elements_text (last_element e) rest = element_text e rest
-  elements_text (element_and e es) rest = element_text e (0x2C ∷ elements_text es rest)
+  elements_text (element_and e es) rest = element_text e (comma ∷ elements_text es rest)
 
   pub element_text : Element → List ℕ → List ℕ
   element_text (element before v behind) rest = before ++ value_text v (behind ++ rest)

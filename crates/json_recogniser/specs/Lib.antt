@@ -1,3 +1,4 @@
+pub mod Characters
 pub mod Grammar
 pub mod Reading
 pub mod Residuals

@@ -4,6 +4,7 @@ use Rattle.std.specs.Prelude.{ℕ, zero, suc, Bool, ◌&&◌, ◌==◌, nat_eq, 
 use Rattle.std.specs.List.{starts_with}
 use Rattle.std.specs.Option.{option_or}
 use Rattle.std.specs.Char.{is_ascii_digit, is_ascii_hexdigit}
+use Rattle.json_recogniser.specs.Characters.{quotation_mark, comma, minus_sign, full_stop, digit_zero, colon, left_square_bracket, reverse_solidus, right_square_bracket, small_f, small_n, small_t, small_u, left_curly_bracket, right_curly_bracket}
 use Rattle.json_recogniser.specs.declared.states.Container.{Container}
 use Rattle.json_recogniser.specs.declared.states.Container.TheVariants.{Array, Object}
 use Rattle.json_recogniser.specs.Grammar.{is_white_space, is_digit_from_1, is_e, is_sign, is_unescaped, is_escaped}
@@ -33,19 +34,19 @@ behind_digits (c ∷ text) = if is_ascii_digit c then Some (without_leading is_a
 
 abbrev pub behind_minus : List ℕ → List ℕ
 behind_minus [] = []
-behind_minus (c ∷ text) = if c == 0x2D then text else c ∷ text
+behind_minus (c ∷ text) = if c == minus_sign then text else c ∷ text
 
 abbrev pub behind_int : List ℕ → Option (List ℕ)
 behind_int [] = None
 behind_int (c ∷ text) =
-    if c == 0x30 then Some text
+    if c == digit_zero then Some text
     else if is_digit_from_1 c then Some (without_leading is_ascii_digit text)
     else None
 
 -- behind frac, where there is one
 abbrev pub behind_frac : List ℕ → Option (List ℕ)
 behind_frac [] = Some []
-behind_frac (c ∷ text) = if c == 0x2E then behind_digits text else Some (c ∷ text)
+behind_frac (c ∷ text) = if c == full_stop then behind_digits text else Some (c ∷ text)
 
 abbrev pub behind_sign : List ℕ → List ℕ
 behind_sign [] = []
@@ -70,7 +71,7 @@ behind_hex _ = None
 abbrev pub behind_escape : List ℕ → Option (List ℕ)
 behind_escape [] = None
 behind_escape (c ∷ text) =
-    if c == 0x75 then behind_hex text
+    if c == small_u then behind_hex text
     else if is_escaped c then Some text
     else None
 
@@ -78,7 +79,7 @@ behind_escape (c ∷ text) =
 abbrev pub behind_string_char : List ℕ → Option (List ℕ)
 behind_string_char [] = None
 behind_string_char (c ∷ text) =
-    if c == 0x5C then behind_escape text
+    if c == reverse_solidus then behind_escape text
     else if is_unescaped c then Some text
     else None
 
@@ -86,7 +87,7 @@ behind_string_char (c ∷ text) =
 unfoldable pub behind_chars : ℕ → List ℕ → Option (List ℕ)
 behind_chars zero text = None
 behind_chars (suc n) text =
-    option_or (behind_char 0x22 text) (option_and_then (behind_chars n) (behind_string_char text))
+    option_or (behind_char quotation_mark text) (option_and_then (behind_chars n) (behind_string_char text))
 
 abbrev pub behind_string : List ℕ → Option (List ℕ)
 behind_string text = behind_chars (suc (length text)) text
@@ -101,7 +102,7 @@ behind_separator more None close text = behind_char close text
 unfoldable pub behind_items : (List ℕ → Option (List ℕ)) → ℕ → ℕ → List ℕ → Option (List ℕ)
 behind_items item close zero text = None
 behind_items item close (suc n) text =
-    option_and_then (λ rest. behind_separator (behind_items item close n) (behind_char 0x2C rest) close rest) (item text)
+    option_and_then (λ rest. behind_separator (behind_items item close n) (behind_char comma rest) close rest) (item text)
 
 -- behind white space and the end, or else behind one item or more and the end
 abbrev pub behind_all_items : (List ℕ → Option (List ℕ)) → ℕ → List ℕ → Option (List ℕ)
@@ -113,22 +114,22 @@ behind_all_items item close text =
 abbrev pub behind_value_by : (Container → List ℕ → Option (List ℕ)) → List ℕ → Option (List ℕ)
 behind_value_by contents [] = None
 behind_value_by contents (c ∷ text) =
-    if c == 0x5B then contents Array text
-    else if c == 0x7B then contents Object text
-    else if c == 0x22 then behind_string text
-    else if c == 0x66 then behind_word (codes "alse") text
-    else if c == 0x6E then behind_word (codes "ull") text
-    else if c == 0x74 then behind_word (codes "rue") text
+    if c == left_square_bracket then contents Array text
+    else if c == left_curly_bracket then contents Object text
+    else if c == quotation_mark then behind_string text
+    else if c == small_f then behind_word (codes "alse") text
+    else if c == small_n then behind_word (codes "ull") text
+    else if c == small_t then behind_word (codes "rue") text
     else behind_number (c ∷ text)
 
 abbrev pub behind_element_by : (Container → List ℕ → Option (List ℕ)) → List ℕ → Option (List ℕ)
 behind_element_by contents text = option_map behind_spaces (behind_value_by contents (behind_spaces text))
 
 abbrev pub behind_name : List ℕ → Option (List ℕ)
-behind_name text = option_and_then behind_string (behind_char 0x22 (behind_spaces text))
+behind_name text = option_and_then behind_string (behind_char quotation_mark (behind_spaces text))
 
 abbrev pub behind_colon : List ℕ → Option (List ℕ)
-behind_colon text = behind_char 0x3A (behind_spaces text)
+behind_colon text = behind_char colon (behind_spaces text)
 
 abbrev pub behind_member_by : (Container → List ℕ → Option (List ℕ)) → List ℕ → Option (List ℕ)
 behind_member_by contents text =
@@ -139,8 +140,8 @@ behind_item_by contents Array text = behind_element_by contents text
 behind_item_by contents Object text = behind_member_by contents text
 
 abbrev pub close_of : Container → ℕ
-close_of Array = 0x5D
-close_of Object = 0x7D
+close_of Array = right_square_bracket
+close_of Object = right_curly_bracket
 
 -- behind an array or object, of which the first character was read, and which with those in it is
 -- of at most so many levels

@@ -2,6 +2,7 @@
 -- reads them, which a JSON text is exactly where they read it whole.
 use Rattle.std.specs.Prelude.{ℕ, zero, suc, ◌-◌, Bool, true, false, nat_lt, List, [], ◌∷◌, length, codes, Option, Some, None, option_and_then, if◌then◌else◌}
 use Rattle.std.specs.Char.{is_ascii_digit, is_ascii_hexdigit}
+use Rattle.json_recogniser.specs.Characters.{comma}
 use Rattle.json_recogniser.specs.declared.states.Container.{Container}
 use Rattle.json_recogniser.specs.declared.states.State.{State}
 use Rattle.json_recogniser.specs.declared.states.State.TheVariants as state
@@ -36,7 +37,7 @@ is_nothing (c ∷ text) = false
 abbrev pub after_residual : List Container → List ℕ → Bool
 after_residual [] text = is_nothing (behind_spaces text)
 after_residual (kind ∷ marks) text =
-    through (after_residual marks) (behind_separator (items_in marks kind) (behind_char 0x2C (behind_spaces text)) (close_of kind) (behind_spaces text))
+    through (after_residual marks) (behind_separator (items_in marks kind) (behind_char comma (behind_spaces text)) (close_of kind) (behind_spaces text))
 
 -- before a value
 abbrev pub value_residual : List Container → List ℕ → Bool
