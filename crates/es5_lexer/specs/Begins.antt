@@ -1,5 +1,6 @@
 -- Which texts are the beginning of one that has tokens.
 use Rattle.std.specs.Prelude.{◌≡◌, ℕ, Bool, true, false, ◌&&◌, ◌==◌, List, [], ◌∷◌, ◌++◌, ◌⊎◌}
+use Rattle.es5_lexer.specs.CodePoints.{dollar_sign, reverse_solidus, small_u}
 use Rattle.es5_lexer.specs.Characters.{is_hex}
 use Rattle.es5_lexer.specs.Texts.{Mark, mark, chars, Lexes}
 use Rattle.es5_lexer.specs.declared.tokens.Goal.{Goal}
@@ -15,10 +16,10 @@ pub record IsFront (w : List Mark) : Type 0 where
 -- what may stand behind the `\` of an escape that isn't whole
 abbrev pub is_open_escape : List ℕ → Bool
 is_open_escape [] = true
-is_open_escape (c ∷ []) = c == 117
-is_open_escape (c ∷ a ∷ []) = (c == 117) && is_hex a
-is_open_escape (c ∷ a ∷ b ∷ []) = (c == 117) && (is_hex a && is_hex b)
-is_open_escape (c ∷ a ∷ b ∷ d ∷ []) = (c == 117) && (is_hex a && (is_hex b && is_hex d))
+is_open_escape (c ∷ []) = c == small_u
+is_open_escape (c ∷ a ∷ []) = (c == small_u) && is_hex a
+is_open_escape (c ∷ a ∷ b ∷ []) = (c == small_u) && (is_hex a && is_hex b)
+is_open_escape (c ∷ a ∷ b ∷ d ∷ []) = (c == small_u) && (is_hex a && (is_hex b && is_hex d))
 is_open_escape _ = false
 
 -- the text ends in an escape that isn't whole, and with a `$` in its place, which keeps the goal
@@ -29,9 +30,9 @@ pub record EndsInEscape (w : List Mark) : Type 0 where
   pub backslash : Mark
   pub digits : List Mark
   pub splits : w ≡ front ++ backslash ∷ digits
-  pub is_backslash : backslash.character ≡ 92
+  pub is_backslash : backslash.character ≡ reverse_solidus
   pub is_open : is_open_escape (chars digits) ≡ true
-  pub begins : IsFront (front ++ mark backslash.reading 36 ∷ [])
+  pub begins : IsFront (front ++ mark backslash.reading dollar_sign ∷ [])
 
 -- characters, under the goals that came with them, begin a text with tokens
 abbrev pub Begins : List Mark → Type 0

@@ -3,6 +3,7 @@
 use Rattle.std.specs.Prelude.{ℕ, ◌+◌, ◌*◌, Bool, true, false, ◌&&◌, ◌||◌, not, nat_lt, if◌then◌else◌, Option, Some, None}
 use Rattle.std.specs.Int.{is_in_range}
 use Rattle.std.specs.Char.{digit_value, is_ascii_digit, is_ascii_hexdigit}
+use Rattle.es5_lexer.specs.CodePoints.{digit_zero, digit_seven}
 use Rattle.text_stream.specs.Classes.{class_of}
 use Rattle.text_stream.specs.declared.classes.CharClass.{CharClass}
 use Rattle.text_stream.specs.declared.classes.CharClass.TheVariants.{LineEnd, Space, NameStart, NamePart, Other}
@@ -61,7 +62,7 @@ is_hex c = is_ascii_hexdigit c
 
 -- OctalDigit (B.1.1)
 abbrev pub is_octal : ℕ → Bool
-is_octal c = is_in_range 48 55 c
+is_octal c = is_in_range digit_zero digit_seven c
 
 -- the number that four hexadecimal digits write
 abbrev pub code_of : ℕ → ℕ → ℕ → ℕ → ℕ

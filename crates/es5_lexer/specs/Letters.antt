@@ -1,6 +1,7 @@
 -- What is kept of a name while it is read: no reserved word has more than ten letters, so eleven of a
 -- name's letters, and whether one is written by an escape, tell its token.
 use Rattle.std.specs.Prelude.{◌≡◌, ℕ, Bool, true, false, ◌||◌, ◌==◌, nat_lt, if◌then◌else◌, Option, Some, None, List, [], ◌∷◌, ◌++◌, length, map, take}
+use Rattle.es5_lexer.specs.CodePoints.{reverse_solidus}
 use Rattle.es5_lexer.specs.Characters.{escaped}
 use Rattle.es5_lexer.specs.Names.{spelled, spelled_escape, is_escaped, word_of, token_by}
 use Rattle.es5_lexer.specs.PlaceResiduals.{with_seen, PlaceResidual}
@@ -32,7 +33,7 @@ with_letter v (Some c) = if nat_lt (length v) 11 then v ++ kept_letter c ∷ [] 
 
 -- the letter of a name that is whole with the character behind the place
 abbrev pub letter : Place → ℕ → Option ℕ
-letter Name c = if c == 92 then None else Some c
+letter Name c = if c == reverse_solidus then None else Some c
 letter (Escape host (ThreeDigits a b d)) c = escaped a b d c
 letter _ c = None
 

@@ -1,5 +1,6 @@
 -- What a lexer that is fed characters has read.
 use Rattle.std.specs.Prelude.{◌≡◌, ℕ, true, false, List, [], ◌∷◌, ◌++◌, ◌⊎◌}
+use Rattle.es5_lexer.specs.CodePoints.{dollar_sign, reverse_solidus}
 use Rattle.es5_lexer.specs.Texts.{Mark, mark, chars}
 use Rattle.es5_lexer.specs.Cuts.{Cut, CutsFrom, lexemes_of}
 use Rattle.es5_lexer.specs.Begins.{IsFront, is_open_escape}
@@ -34,10 +35,10 @@ pub record EscapeAt (seen : Seen) (m : List Mark) : Type 0 where
   pub backslash : Mark
   pub digits : List Mark
   pub splits : m ≡ before ++ backslash ∷ digits
-  pub is_backslash : backslash.character ≡ 92
+  pub is_backslash : backslash.character ≡ reverse_solidus
   pub spells : chars digits ≡ with_seen seen []
   pub is_open : is_open_escape (with_seen seen []) ≡ true
-  pub begins : IsFront (before ++ mark backslash.reading 36 ∷ [])
+  pub begins : IsFront (before ++ mark backslash.reading dollar_sign ∷ [])
 
 -- where such an escape leaves a string
 abbrev pub text_place : Seen → TextPlace

@@ -1,3 +1,4 @@
+pub mod CodePoints
 pub mod Characters
 pub mod Trivia
 pub mod Names

@@ -7,6 +7,7 @@
 -- An escape is `\u` and four hexadecimal digits, and gives a character that may stand in its place.
 use Rattle.std.specs.Prelude.{◌≡◌, ℕ, Bool, true, false, if◌then◌else◌, List, [], ◌∷◌, ◌==◌, codes, bytes_eq, Some, None, Option, ◌⊎◌}
 use Rattle.std.specs.List.{list_any}
+use Rattle.es5_lexer.specs.CodePoints.{reverse_solidus, small_u}
 use Rattle.es5_lexer.specs.Characters.{is_start, is_part, escaped, is_escape_of}
 use Rattle.es5_lexer.specs.declared.tokens.Word.{Word}
 use Rattle.es5_lexer.specs.declared.tokens.Word.TheVariants.{Break, Case, Catch, Continue, Debugger, Default, Delete, Do, Else, Finally, For, Function, If, In, Instanceof, New, Return, Switch, This, Throw, Try, Typeof, Var, Void, While, With, Class, Const, Enum, Export, Extends, Import, Super, Null, True, False}
@@ -17,18 +18,18 @@ abbrev mutual
   -- zero or more name parts
   pub AreParts : List ℕ → Type 0
   AreParts [] = Unit {0}
-  AreParts (c ∷ u) = ((is_part c ≡ true) × AreParts u) ⊎ ((c ≡ 92) × AreEscaped is_part u)
+  AreParts (c ∷ u) = ((is_part c ≡ true) × AreParts u) ⊎ ((c ≡ reverse_solidus) × AreEscaped is_part u)
 
   -- what stands behind a `\`: the rest of an escape of a character of the set, then name parts
   pub AreEscaped : (ℕ → Bool) → List ℕ → Type 0
   AreEscaped set (x ∷ a ∷ b ∷ c ∷ d ∷ u) =
-      (x ≡ 117) × (is_escape_of set a b c d ≡ true) × AreParts u
+      (x ≡ small_u) × (is_escape_of set a b c d ≡ true) × AreParts u
   AreEscaped set _ = ⊥
 
 -- IdentifierName
 abbrev pub IsName : List ℕ → Type 0
 IsName [] = ⊥
-IsName (c ∷ u) = ((is_start c ≡ true) × AreParts u) ⊎ ((c ≡ 92) × AreEscaped is_start u)
+IsName (c ∷ u) = ((is_start c ≡ true) × AreParts u) ⊎ ((c ≡ reverse_solidus) × AreEscaped is_start u)
 
 abbrev pub spelled_with : Option ℕ → List ℕ → List ℕ
 spelled_with (Some c) v = c ∷ v
@@ -38,7 +39,7 @@ abbrev mutual
   -- the characters of a name, each escape replaced by what it gives
   pub spelled : List ℕ → List ℕ
   spelled [] = []
-  spelled (c ∷ u) = if c == 92 then spelled_escape u else c ∷ spelled u
+  spelled (c ∷ u) = if c == reverse_solidus then spelled_escape u else c ∷ spelled u
 
   pub spelled_escape : List ℕ → List ℕ
   spelled_escape (x ∷ a ∷ b ∷ c ∷ d ∷ u) = spelled_with (escaped a b c d) (spelled u)
@@ -46,7 +47,7 @@ abbrev mutual
 
 -- it is written with an escape
 abbrev pub is_escaped : List ℕ → Bool
-is_escaped u = list_any (λ c. c == 92) u
+is_escaped u = list_any (λ c. c == reverse_solidus) u
 
 -- ReservedWord (7.6.1): Keyword, FutureReservedWord, NullLiteral, BooleanLiteral
 unfoldable pub reserved_words : List (List ℕ × Word)

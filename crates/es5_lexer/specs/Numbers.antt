@@ -11,21 +11,22 @@
 -- Each definition says which texts may stand behind what was read of a literal.
 use Rattle.std.specs.Prelude.{◌≡◌, ℕ, Bool, true, ◌||◌, List, [], ◌∷◌, ◌==◌, ◌⊎◌}
 use Rattle.std.specs.Int.{is_in_range}
+use Rattle.es5_lexer.specs.CodePoints.{plus_sign, hyphen_minus, full_stop, digit_zero, digit_one, digit_nine, capital_e, capital_x, small_e, small_x}
 use Rattle.es5_lexer.specs.Characters.{is_digit, is_hex, is_octal}
 
 -- NonZeroDigit
 abbrev pub is_nonzero : ℕ → Bool
-is_nonzero c = is_in_range 49 57 c
+is_nonzero c = is_in_range digit_one digit_nine c
 
 -- ExponentIndicator
 abbrev pub is_exponent_mark : ℕ → Bool
-is_exponent_mark c = (c == 101) || (c == 69)
+is_exponent_mark c = (c == small_e) || (c == capital_e)
 
 abbrev pub is_hex_mark : ℕ → Bool
-is_hex_mark c = (c == 120) || (c == 88)
+is_hex_mark c = (c == small_x) || (c == capital_x)
 
 abbrev pub is_sign : ℕ → Bool
-is_sign c = (c == 43) || (c == 45)
+is_sign c = (c == plus_sign) || (c == hyphen_minus)
 
 -- zero or more digits
 abbrev pub AreDigits : List ℕ → Type 0
@@ -59,7 +60,7 @@ abbrev pub IsBehindDigit : List ℕ → Type 0
 IsBehindDigit [] = Unit {0}
 IsBehindDigit (c ∷ u) =
     ((is_digit c ≡ true) × IsBehindDigit u)
-    ⊎ (((c ≡ 46) × IsBehindPoint u) ⊎ ((is_exponent_mark c ≡ true) × IsSignedInteger u))
+    ⊎ (((c ≡ full_stop) × IsBehindPoint u) ⊎ ((is_exponent_mark c ≡ true) × IsSignedInteger u))
 
 -- zero or more hexadecimal digits
 abbrev pub AreHexDigits : List ℕ → Type 0
@@ -81,11 +82,11 @@ abbrev pub IsBehindZero : List ℕ → Type 0
 IsBehindZero [] = Unit {0}
 IsBehindZero (c ∷ u) =
     ((is_octal c ≡ true) × AreOctalDigits u)
-    ⊎ (((c ≡ 46) × IsBehindPoint u)
+    ⊎ (((c ≡ full_stop) × IsBehindPoint u)
     ⊎ (((is_exponent_mark c ≡ true) × IsSignedInteger u) ⊎ ((is_hex_mark c ≡ true) × AreSomeHexDigits u)))
 
 -- NumericLiteral
 abbrev pub IsNumber : List ℕ → Type 0
 IsNumber [] = ⊥
 IsNumber (c ∷ u) =
-    ((c ≡ 48) × IsBehindZero u) ⊎ (((is_nonzero c ≡ true) × IsBehindDigit u) ⊎ ((c ≡ 46) × IsFraction u))
+    ((c ≡ digit_zero) × IsBehindZero u) ⊎ (((is_nonzero c ≡ true) × IsBehindDigit u) ⊎ ((c ≡ full_stop) × IsFraction u))

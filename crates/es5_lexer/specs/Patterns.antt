@@ -10,28 +10,29 @@
 --
 -- RegularExpressionFirstChar is a RegularExpressionChar other than `*`.
 use Rattle.std.specs.Prelude.{◌≡◌, ℕ, Bool, true, ◌||◌, not, List, [], ◌∷◌, ◌==◌, ◌⊎◌}
+use Rattle.es5_lexer.specs.CodePoints.{asterisk, solidus, left_square_bracket, reverse_solidus, right_square_bracket}
 use Rattle.es5_lexer.specs.Characters.{is_line_end}
 use Rattle.es5_lexer.specs.Names.{AreParts}
 
 -- a character of a body that stands for itself: neither `/`, `\`, `[` nor a line terminator
 abbrev pub is_body_char : ℕ → Bool
-is_body_char c = not ((c == 47) || ((c == 92) || ((c == 91) || is_line_end c)))
+is_body_char c = not ((c == solidus) || ((c == reverse_solidus) || ((c == left_square_bracket) || is_line_end c)))
 
 -- the same at the head of a body: not `*` either
 abbrev pub is_first_char : ℕ → Bool
-is_first_char c = not ((c == 42) || ((c == 47) || ((c == 92) || ((c == 91) || is_line_end c))))
+is_first_char c = not ((c == asterisk) || ((c == solidus) || ((c == reverse_solidus) || ((c == left_square_bracket) || is_line_end c))))
 
 -- a character of a class: neither `]`, `\` nor a line terminator
 abbrev pub is_class_char : ℕ → Bool
-is_class_char c = not ((c == 93) || ((c == 92) || is_line_end c))
+is_class_char c = not ((c == right_square_bracket) || ((c == reverse_solidus) || is_line_end c))
 
 abbrev mutual
   -- what may stand behind a whole character of a body: more of it, `/` and flags
   pub IsBodyRest : List ℕ → Type 0
   IsBodyRest [] = ⊥
   IsBodyRest (c ∷ u) =
-      ((c ≡ 47) × AreParts u)
-      ⊎ (((is_body_char c ≡ true) × IsBodyRest u) ⊎ (((c ≡ 92) × IsBehindBackslash u) ⊎ ((c ≡ 91) × IsClassRest u)))
+      ((c ≡ solidus) × AreParts u)
+      ⊎ (((is_body_char c ≡ true) × IsBodyRest u) ⊎ (((c ≡ reverse_solidus) × IsBehindBackslash u) ⊎ ((c ≡ left_square_bracket) × IsClassRest u)))
 
   -- behind a `\`
   pub IsBehindBackslash : List ℕ → Type 0
@@ -42,7 +43,7 @@ abbrev mutual
   pub IsClassRest : List ℕ → Type 0
   IsClassRest [] = ⊥
   IsClassRest (c ∷ u) =
-      ((c ≡ 93) × IsBodyRest u) ⊎ (((is_class_char c ≡ true) × IsClassRest u) ⊎ ((c ≡ 92) × IsBehindClassBackslash u))
+      ((c ≡ right_square_bracket) × IsBodyRest u) ⊎ (((is_class_char c ≡ true) × IsClassRest u) ⊎ ((c ≡ reverse_solidus) × IsBehindClassBackslash u))
 
   -- behind a `\` in a class
   pub IsBehindClassBackslash : List ℕ → Type 0
@@ -53,9 +54,9 @@ abbrev mutual
 abbrev pub IsBody : List ℕ → Type 0
 IsBody [] = ⊥
 IsBody (c ∷ u) =
-    ((is_first_char c ≡ true) × IsBodyRest u) ⊎ (((c ≡ 92) × IsBehindBackslash u) ⊎ ((c ≡ 91) × IsClassRest u))
+    ((is_first_char c ≡ true) × IsBodyRest u) ⊎ (((c ≡ reverse_solidus) × IsBehindBackslash u) ⊎ ((c ≡ left_square_bracket) × IsClassRest u))
 
 -- RegularExpressionLiteral
 abbrev pub IsPattern : List ℕ → Type 0
 IsPattern [] = ⊥
-IsPattern (c ∷ u) = (c ≡ 47) × IsBody u
+IsPattern (c ∷ u) = (c ≡ solidus) × IsBody u

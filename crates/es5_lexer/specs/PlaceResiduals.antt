@@ -1,5 +1,6 @@
 -- The residual of each place in a token: what may still come there, of a token of some kind.
 use Rattle.std.specs.Prelude.{◌≡◌, ℕ, true, false, Some, List, [], ◌∷◌, ◌⊎◌}
+use Rattle.es5_lexer.specs.CodePoints.{small_u}
 use Rattle.es5_lexer.specs.Characters.{is_digit}
 use Rattle.es5_lexer.specs.Suits.{is_div}
 use Rattle.es5_lexer.specs.Names.{AreParts, AreEscaped, IsName}
@@ -46,10 +47,10 @@ kind_in FlagChar = APattern
 -- what was read of an escape after its `\`, before what follows
 abbrev pub with_seen : Seen → List ℕ → List ℕ
 with_seen EscapeMark u = u
-with_seen EscapeLetter u = 117 ∷ u
-with_seen (OneDigit a) u = 117 ∷ a ∷ u
-with_seen (TwoDigits a b) u = 117 ∷ a ∷ b ∷ u
-with_seen (ThreeDigits a b c) u = 117 ∷ a ∷ b ∷ c ∷ u
+with_seen EscapeLetter u = small_u ∷ u
+with_seen (OneDigit a) u = small_u ∷ a ∷ u
+with_seen (TwoDigits a b) u = small_u ∷ a ∷ b ∷ u
+with_seen (ThreeDigits a b c) u = small_u ∷ a ∷ b ∷ c ∷ u
 
 -- in an escape: its rest, and then name parts
 abbrev pub EscapeResidual : Host → Seen → List ℕ → Type 0

@@ -1,6 +1,7 @@
 -- What the calls on places in a token compute: how a place goes on by a character, and what ends at
 -- it. The files on the kinds of tokens say what a token is; this says no more of it.
 use Rattle.std.specs.Prelude.{ℕ, Bool, true, false, ◌&&◌, ◌==◌, if◌then◌else◌, Option, Some, None}
+use Rattle.es5_lexer.specs.CodePoints.{line_feed, carriage_return, exclamation_mark, quotation_mark, percent_sign, ampersand, apostrophe, left_parenthesis, right_parenthesis, asterisk, plus_sign, comma, hyphen_minus, full_stop, solidus, digit_zero, colon, semicolon, less_than_sign, equals_sign, greater_than_sign, question_mark, left_square_bracket, reverse_solidus, right_square_bracket, circumflex_accent, small_u, small_x, left_curly_bracket, vertical_line, right_curly_bracket, tilde}
 use Rattle.es5_lexer.specs.Characters.{is_start, is_part, is_line_end, is_digit, is_hex, is_octal, is_escape_of}
 use Rattle.es5_lexer.specs.Suits.{is_div}
 use Rattle.es5_lexer.specs.Numbers.{is_nonzero, is_exponent_mark, is_hex_mark, is_sign}
@@ -30,29 +31,29 @@ use Rattle.es5_lexer.specs.declared.places.PatternPlace.TheVariants.{BodyStart, 
 -- the punctuator that is this character alone, division apart
 abbrev pub mark : ℕ → Option Punct
 mark c =
-    if c == 123 then Some LeftBrace
-    else if c == 125 then Some RightBrace
-    else if c == 40 then Some LeftParen
-    else if c == 41 then Some RightParen
-    else if c == 91 then Some LeftBracket
-    else if c == 93 then Some RightBracket
-    else if c == 46 then Some Dot
-    else if c == 59 then Some Semicolon
-    else if c == 44 then Some Comma
-    else if c == 60 then Some Less
-    else if c == 62 then Some Greater
-    else if c == 43 then Some Plus
-    else if c == 45 then Some Minus
-    else if c == 42 then Some Star
-    else if c == 37 then Some Percent
-    else if c == 38 then Some And
-    else if c == 124 then Some Or
-    else if c == 94 then Some Xor
-    else if c == 33 then Some Not
-    else if c == 126 then Some Tilde
-    else if c == 63 then Some Question
-    else if c == 58 then Some Colon
-    else if c == 61 then Some Assign
+    if c == left_curly_bracket then Some LeftBrace
+    else if c == right_curly_bracket then Some RightBrace
+    else if c == left_parenthesis then Some LeftParen
+    else if c == right_parenthesis then Some RightParen
+    else if c == left_square_bracket then Some LeftBracket
+    else if c == right_square_bracket then Some RightBracket
+    else if c == full_stop then Some Dot
+    else if c == semicolon then Some Semicolon
+    else if c == comma then Some Comma
+    else if c == less_than_sign then Some Less
+    else if c == greater_than_sign then Some Greater
+    else if c == plus_sign then Some Plus
+    else if c == hyphen_minus then Some Minus
+    else if c == asterisk then Some Star
+    else if c == percent_sign then Some Percent
+    else if c == ampersand then Some And
+    else if c == vertical_line then Some Or
+    else if c == circumflex_accent then Some Xor
+    else if c == exclamation_mark then Some Not
+    else if c == tilde then Some Tilde
+    else if c == question_mark then Some Question
+    else if c == colon then Some Colon
+    else if c == equals_sign then Some Assign
     else None
 
 -- the punctuator that `=` makes of this one
@@ -78,18 +79,18 @@ by_equals _ = None
 
 -- the one that this character doubles, and what that makes
 abbrev pub by_itself : Punct → ℕ → Option Punct
-by_itself Less c = if c == 60 then Some ShiftLeft else None
-by_itself Greater c = if c == 62 then Some ShiftRight else None
-by_itself ShiftRight c = if c == 62 then Some ShiftRightZero else None
-by_itself Plus c = if c == 43 then Some PlusPlus else None
-by_itself Minus c = if c == 45 then Some MinusMinus else None
-by_itself And c = if c == 38 then Some AndAnd else None
-by_itself Or c = if c == 124 then Some OrOr else None
+by_itself Less c = if c == less_than_sign then Some ShiftLeft else None
+by_itself Greater c = if c == greater_than_sign then Some ShiftRight else None
+by_itself ShiftRight c = if c == greater_than_sign then Some ShiftRightZero else None
+by_itself Plus c = if c == plus_sign then Some PlusPlus else None
+by_itself Minus c = if c == hyphen_minus then Some MinusMinus else None
+by_itself And c = if c == ampersand then Some AndAnd else None
+by_itself Or c = if c == vertical_line then Some OrOr else None
 by_itself _ c = None
 
 -- the punctuator that the character makes of this one
 abbrev pub longer : Punct → ℕ → Option Punct
-longer p c = if c == 61 then by_equals p else by_itself p c
+longer p c = if c == equals_sign then by_equals p else by_itself p c
 
 -- the characters that a host takes
 abbrev pub set_of : Host → ℕ → Bool
@@ -114,19 +115,19 @@ behind_mark None = Dead
 abbrev pub first : Goal → ℕ → Place
 first g c =
     if is_start c then Name
-    else if c == 92 then Escape FirstChar EscapeMark
-    else if c == 48 then Number Zero
+    else if c == reverse_solidus then Escape FirstChar EscapeMark
+    else if c == digit_zero then Number Zero
     else if is_nonzero c then Number Digit
-    else if c == 34 then Text Double Chars
-    else if c == 39 then Text Single Chars
-    else if c == 47 then behind_slash g
+    else if c == quotation_mark then Text Double Chars
+    else if c == apostrophe then Text Single Chars
+    else if c == solidus then behind_slash g
     else behind_mark (mark c)
 
 abbrev pub next_in_parts : Host → ℕ → Place
-next_in_parts host c = if is_part c then behind host else if c == 92 then Escape host EscapeMark else Dead
+next_in_parts host c = if is_part c then behind host else if c == reverse_solidus then Escape host EscapeMark else Dead
 
 abbrev pub next_in_escape : Host → Seen → ℕ → Place
-next_in_escape host EscapeMark c = if c == 117 then Escape host EscapeLetter else Dead
+next_in_escape host EscapeMark c = if c == small_u then Escape host EscapeLetter else Dead
 next_in_escape host EscapeLetter c = if is_hex c then Escape host (OneDigit c) else Dead
 next_in_escape host (OneDigit a) c = if is_hex c then Escape host (TwoDigits a c) else Dead
 next_in_escape host (TwoDigits a b) c = if is_hex c then Escape host (ThreeDigits a b c) else Dead
@@ -147,7 +148,7 @@ abbrev pub next_in_exponent : ℕ → Place
 next_in_exponent c = if is_exponent_mark c then Number Exponent else Dead
 
 abbrev pub next_in_whole : ℕ → Place
-next_in_whole c = if c == 46 then Number Point else next_in_exponent c
+next_in_whole c = if c == full_stop then Number Point else next_in_exponent c
 
 abbrev pub next_in_number : NumberPlace → ℕ → Place
 next_in_number Zero c = if is_octal c then Number OctalDigit else if is_hex_mark c then Number HexMark else next_in_whole c
@@ -163,14 +164,14 @@ next_in_number OctalDigit c = if is_octal c then Number OctalDigit else Dead
 abbrev pub next_in_chars : Quote → ℕ → Place
 next_in_chars q c =
     if c == quote_of q then Text q End
-    else if c == 92 then Text q TextEscape
+    else if c == reverse_solidus then Text q TextEscape
     else if is_line_end c then Dead else Text q Chars
 
 abbrev pub behind_text_escape : Quote → ℕ → Place
 behind_text_escape q c =
-    if c == 120 then Text q (Hex Two)
-    else if c == 117 then Text q (Hex Four)
-    else if c == 13 then Text q Cr else Text q Chars
+    if c == small_x then Text q (Hex Two)
+    else if c == small_u then Text q (Hex Four)
+    else if c == carriage_return then Text q Cr else Text q Chars
 
 abbrev pub fewer : Left → TextPlace
 fewer One = Chars
@@ -181,25 +182,25 @@ fewer Four = Hex Three
 abbrev pub next_in_text : Quote → TextPlace → ℕ → Place
 next_in_text q Chars c = next_in_chars q c
 next_in_text q TextEscape c = behind_text_escape q c
-next_in_text q Cr c = if c == 10 then Text q Chars else next_in_chars q c
+next_in_text q Cr c = if c == line_feed then Text q Chars else next_in_chars q c
 next_in_text q (Hex left) c = if is_hex c then Text q (fewer left) else Dead
 next_in_text q End c = Dead
 
 abbrev pub next_in_body : ℕ → Place
 next_in_body c =
-    if c == 92 then Pattern BodyEscape
-    else if c == 91 then Pattern Class
+    if c == reverse_solidus then Pattern BodyEscape
+    else if c == left_square_bracket then Pattern Class
     else if is_line_end c then Dead else Pattern Body
 
 abbrev pub next_in_class : ℕ → Place
 next_in_class c =
-    if c == 93 then Pattern Body
-    else if c == 92 then Pattern ClassEscape
+    if c == right_square_bracket then Pattern Body
+    else if c == reverse_solidus then Pattern ClassEscape
     else if is_line_end c then Dead else Pattern Class
 
 abbrev pub next_in_pattern : PatternPlace → ℕ → Place
-next_in_pattern BodyStart c = if c == 42 then Dead else if c == 47 then Dead else next_in_body c
-next_in_pattern Body c = if c == 47 then Pattern Flags else next_in_body c
+next_in_pattern BodyStart c = if c == asterisk then Dead else if c == solidus then Dead else next_in_body c
+next_in_pattern Body c = if c == solidus then Pattern Flags else next_in_body c
 next_in_pattern BodyEscape c = if is_line_end c then Dead else Pattern Body
 next_in_pattern Class c = next_in_class c
 next_in_pattern ClassEscape c = if is_line_end c then Dead else Pattern Class

@@ -1,6 +1,7 @@
 -- What the calls on a text compute: trivia at its front, and the longest token there. The files on
 -- trivia and on the kinds of tokens say what these are; this says no more of them.
 use Rattle.std.specs.Prelude.{◌≡◌, ℕ, Bool, true, false, ◌&&◌, ◌==◌, if◌then◌else◌, Option, Some, None, List, [], ◌∷◌, length, take, drop, ◌-◌}
+use Rattle.es5_lexer.specs.CodePoints.{asterisk, solidus}
 use Rattle.es5_lexer.specs.Characters.{is_line_end, is_space}
 use Rattle.es5_lexer.specs.Names.{name_token}
 use Rattle.es5_lexer.specs.Tokens.{may_precede}
@@ -32,14 +33,14 @@ behind_line (c ∷ u) = if is_line_end c then c ∷ u else behind_line u
 abbrev pub block_comment : Bool → Bool → List ℕ → Option Trivium
 block_comment star ended [] = None
 block_comment star ended (c ∷ u) =
-    if star && (c == 47) then trivium_with ended u else block_comment (c == 42) (ended_by ended c) u
+    if star && (c == solidus) then trivium_with ended u else block_comment (c == asterisk) (ended_by ended c) u
 
 -- a comment behind its first `/`
 abbrev pub comment : List ℕ → Option Trivium
 comment [] = None
 comment (c ∷ u) =
-    if c == 47 then trivium_with false (behind_line u)
-    else if c == 42 then block_comment false false u else None
+    if c == solidus then trivium_with false (behind_line u)
+    else if c == asterisk then block_comment false false u else None
 
 -- white space, a line terminator or a comment at the front
 abbrev pub leading_trivium : List ℕ → Option Trivium
@@ -47,7 +48,7 @@ leading_trivium [] = None
 leading_trivium (c ∷ u) =
     if is_line_end c then trivium_with true u
     else if is_space c then trivium_with false u
-    else if c == 47 then comment u else None
+    else if c == solidus then comment u else None
 
 -- the longest so far, behind one character more
 abbrev pub better : Option Kind → List ℕ → Option Longest → Option Longest

@@ -1,6 +1,7 @@
 -- What may still come from each state of a lexer that is fed characters: its residual. A text goes on
 -- from a state exactly where the characters fed and then that text have tokens.
 use Rattle.std.specs.Prelude.{◌≡◌, ℕ, Bool, true, false, if◌then◌else◌, Option, Some, None, List, [], ◌∷◌, ◌++◌, ◌⊎◌, ◌&&◌, ◌==◌}
+use Rattle.es5_lexer.specs.CodePoints.{asterisk, solidus}
 use Rattle.es5_lexer.specs.Characters.{is_line_end}
 use Rattle.es5_lexer.specs.Trivia.{is_blank, is_line_comment, EndsLine, IsCommentRest}
 use Rattle.es5_lexer.specs.Tokens.{is_barred, may_precede}
@@ -55,7 +56,7 @@ pub record BlockFrom (star newline : Bool) (w : List Mark) (end : Goal) (tokens 
 -- the residual of a state: the slash that is kept comes first again
 abbrev pub From : State → List ℕ → Bool → List Mark → Goal → List Cut → Type 0
 From Start read newline w end tokens = CutsFrom newline w end tokens
-From Slash read newline w end tokens = (g : Goal) × CutsFrom newline (mark g 47 ∷ w) end tokens
+From Slash read newline w end tokens = (g : Goal) × CutsFrom newline (mark g solidus ∷ w) end tokens
 From LineComment read newline w end tokens = LineFrom newline w end tokens
 From (BlockComment star) read newline w end tokens = BlockFrom star newline w end tokens
 From (Token place) read newline w end tokens = TokenFrom place read newline w end tokens
@@ -68,7 +69,7 @@ pub record GoesOn (s : State) (read : List ℕ) (newline : Bool) (given : List C
 
 -- the characters of the token at hand in a state
 abbrev pub own : State → List ℕ → List ℕ
-own Slash read = 47 ∷ []
+own Slash read = solidus ∷ []
 own (Token place) read = read
 own _ read = []
 
@@ -100,7 +101,7 @@ is_dead_state _ = false
 -- where a character leads to that ends no token and is in none
 abbrev pub LeadsStart : Goal → ℕ → State → Type 0
 LeadsStart g c Start = is_blank c ≡ true
-LeadsStart g c Slash = c ≡ 47
+LeadsStart g c Slash = c ≡ solidus
 LeadsStart g c (Token q) = q ≡ first g c
 LeadsStart g c _ = ⊥
 
@@ -120,11 +121,11 @@ LeadsFrom p g c (Some k) t =
 -- where a character leads to, and the token that has ended before it
 abbrev pub Leads : State → Goal → ℕ → Option Kind → State → Type 0
 Leads Start g c None t = LeadsStart g c t
-Leads Slash g c None LineComment = c ≡ 47
-Leads Slash g c None (BlockComment star) = c ≡ 42
+Leads Slash g c None LineComment = c ≡ solidus
+Leads Slash g c None (BlockComment star) = c ≡ asterisk
 Leads Slash g c given t = LeadsFrom (behind_slash g) g c given t
 Leads LineComment g c None t = t ≡ (if is_line_end c then Start else LineComment)
-Leads (BlockComment star) g c None t = t ≡ (if star && (c == 47) then Start else BlockComment (c == 42))
+Leads (BlockComment star) g c None t = t ≡ (if star && (c == solidus) then Start else BlockComment (c == asterisk))
 Leads (Token p) g c given t = LeadsFrom p g c given t
 Leads _ g c (Some k) t = ⊥
 

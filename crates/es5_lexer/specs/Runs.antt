@@ -1,6 +1,7 @@
 -- The characters that leave a lexer as it is.
 use Rattle.std.specs.Prelude.{ℕ, Bool, false, not, ◌&&◌, ◌==◌, nat_lt, length}
 use Rattle.std.specs.Char.{is_ascii}
+use Rattle.es5_lexer.specs.CodePoints.{asterisk}
 use Rattle.es5_lexer.specs.Characters.{is_line_end, is_space, is_part}
 use Rattle.es5_lexer.specs.Strings.{is_plain}
 use Rattle.es5_lexer.specs.declared.places.Place.TheVariants.{Name, Text}
@@ -13,7 +14,7 @@ use Rattle.es5_lexer.specs.declared.lexer.Lexer.{Lexer}
 abbrev pub stays_in : State → Bool → ℕ → Bool
 stays_in Start full c = not (is_line_end c) && is_space c
 stays_in LineComment full c = not (is_line_end c)
-stays_in (BlockComment false) full c = not (is_line_end c) && not (c == 42)
+stays_in (BlockComment false) full c = not (is_line_end c) && not (c == asterisk)
 stays_in (Token Name) full c = full && is_part c
 stays_in (Token (Text q Chars)) full c = is_plain q c
 stays_in s full c = false

@@ -11,22 +11,23 @@
 -- takes 8 and 9). A CR and the LF behind it are one LineTerminatorSequence; since no LF stands in a
 -- string but behind `\` or that CR, nothing need be said of a CR alone.
 use Rattle.std.specs.Prelude.{◌≡◌, ℕ, zero, suc, Bool, true, ◌||◌, not, List, [], ◌∷◌, ◌==◌, ◌⊎◌}
+use Rattle.es5_lexer.specs.CodePoints.{line_feed, carriage_return, quotation_mark, apostrophe, reverse_solidus, small_u, small_x}
 use Rattle.es5_lexer.specs.Characters.{is_line_end, is_hex}
 use Rattle.es5_lexer.specs.declared.places.Quote.{Quote}
 use Rattle.es5_lexer.specs.declared.places.Quote.TheVariants.{Double, Single}
 
 -- the character of a quote
 abbrev pub quote_of : Quote → ℕ
-quote_of Double = 34
-quote_of Single = 39
+quote_of Double = quotation_mark
+quote_of Single = apostrophe
 
 -- a character that stands for itself
 abbrev pub is_plain : Quote → ℕ → Bool
-is_plain q c = not ((c == quote_of q) || ((c == 92) || is_line_end c))
+is_plain q c = not ((c == quote_of q) || ((c == reverse_solidus) || is_line_end c))
 
 -- a character behind `\` that is the whole of an escape: a line terminator other than CR too
 abbrev pub is_single_escape : ℕ → Bool
-is_single_escape c = not ((c == 120) || ((c == 117) || (c == 13)))
+is_single_escape c = not ((c == small_x) || ((c == small_u) || (c == carriage_return)))
 
 abbrev mutual
   -- what may stand behind a whole character of a string, its closing quote included
@@ -34,20 +35,20 @@ abbrev mutual
   IsStringRest q [] = ⊥
   IsStringRest q (c ∷ u) =
       ((c ≡ quote_of q) × (u ≡ []))
-      ⊎ (((is_plain q c ≡ true) × IsStringRest q u) ⊎ ((c ≡ 92) × IsBehindEscape q u))
+      ⊎ (((is_plain q c ≡ true) × IsStringRest q u) ⊎ ((c ≡ reverse_solidus) × IsBehindEscape q u))
 
   -- behind a `\`
   pub IsBehindEscape : Quote → List ℕ → Type 0
   IsBehindEscape q [] = ⊥
   IsBehindEscape q (c ∷ u) =
-      ((c ≡ 120) × AreHexThen 1 q u)
-      ⊎ (((c ≡ 117) × AreHexThen 3 q u)
-      ⊎ (((c ≡ 13) × (IsStringRest q u ⊎ IsLfThen q u)) ⊎ ((is_single_escape c ≡ true) × IsStringRest q u)))
+      ((c ≡ small_x) × AreHexThen 1 q u)
+      ⊎ (((c ≡ small_u) × AreHexThen 3 q u)
+      ⊎ (((c ≡ carriage_return) × (IsStringRest q u ⊎ IsLfThen q u)) ⊎ ((is_single_escape c ≡ true) × IsStringRest q u)))
 
   -- the LF of a CR LF, and the rest
   pub IsLfThen : Quote → List ℕ → Type 0
   IsLfThen q [] = ⊥
-  IsLfThen q (c ∷ u) = (c ≡ 10) × IsStringRest q u
+  IsLfThen q (c ∷ u) = (c ≡ line_feed) × IsStringRest q u
 
   -- a hexadecimal digit and so many more, and the rest
   pub AreHexThen : ℕ → Quote → List ℕ → Type 0
@@ -58,4 +59,4 @@ abbrev mutual
 -- StringLiteral
 abbrev pub IsString : List ℕ → Type 0
 IsString [] = ⊥
-IsString (c ∷ u) = ((c ≡ 34) × IsStringRest Double u) ⊎ ((c ≡ 39) × IsStringRest Single u)
+IsString (c ∷ u) = ((c ≡ quotation_mark) × IsStringRest Double u) ⊎ ((c ≡ apostrophe) × IsStringRest Single u)

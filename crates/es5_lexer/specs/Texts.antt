@@ -5,6 +5,7 @@
 -- of the character behind it, or by the goal that came with the end.
 use Rattle.std.specs.Prelude.{◌≡◌, ℕ, Bool, true, false, if◌then◌else◌, List, [], ◌∷◌, ◌++◌}
 use Rattle.std.specs.List.{list_any}
+use Rattle.es5_lexer.specs.CodePoints.{asterisk, solidus}
 use Rattle.es5_lexer.specs.Characters.{is_line_end}
 use Rattle.es5_lexer.specs.Trivia.{is_blank, is_line_comment, EndsLine, IsBlockComment}
 use Rattle.es5_lexer.specs.Tokens.{Stands}
@@ -55,11 +56,11 @@ abbrev pub Fit : List Item → List Mark → Goal → Type 0
 Fit [] rest end = Unit {0}
 Fit (blank m ∷ items) rest end = (is_blank m.character ≡ true) × Fit items rest end
 Fit (line a b q ∷ items) rest end =
-    ((a.character ≡ 47) × (b.character ≡ 47) × (is_line_comment (chars q) ≡ true))
+    ((a.character ≡ solidus) × (b.character ≡ solidus) × (is_line_comment (chars q) ≡ true))
     × EndsLine (chars (text items rest))
     × Fit items rest end
 Fit (block a b q ∷ items) rest end =
-    ((a.character ≡ 47) × (b.character ≡ 42) × IsBlockComment (chars q)) × Fit items rest end
+    ((a.character ≡ solidus) × (b.character ≡ asterisk) × IsBlockComment (chars q)) × Fit items rest end
 Fit (token t a q ∷ items) rest end =
     Stands (asked (q ++ text items rest) end) t (a.character ∷ chars q) (chars (text items rest))
     × Fit items rest end
@@ -107,11 +108,11 @@ abbrev pub FitEither : List Item → List Mark → Type 0
 FitEither [] rest = Unit {0}
 FitEither (blank m ∷ items) rest = (is_blank m.character ≡ true) × FitEither items rest
 FitEither (line a b q ∷ items) rest =
-    ((a.character ≡ 47) × (b.character ≡ 47) × (is_line_comment (chars q) ≡ true))
+    ((a.character ≡ solidus) × (b.character ≡ solidus) × (is_line_comment (chars q) ≡ true))
     × EndsLine (chars (text items rest))
     × FitEither items rest
 FitEither (block a b q ∷ items) rest =
-    ((a.character ≡ 47) × (b.character ≡ 42) × IsBlockComment (chars q)) × FitEither items rest
+    ((a.character ≡ solidus) × (b.character ≡ asterisk) × IsBlockComment (chars q)) × FitEither items rest
 FitEither (token t a q ∷ items) rest =
     ((g : Goal) × Stands g t (a.character ∷ chars q) (chars (text items rest))) × FitEither items rest
 

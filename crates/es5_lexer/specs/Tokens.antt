@@ -1,5 +1,6 @@
 -- The texts of each token, and where one stands (ECMA-262 5.1, section 7).
 use Rattle.std.specs.Prelude.{◌≡◌, ℕ, Bool, true, false, ◌||◌, not, List, [], ◌∷◌, ◌++◌, ◌==◌}
+use Rattle.es5_lexer.specs.CodePoints.{asterisk, solidus, reverse_solidus}
 use Rattle.es5_lexer.specs.Characters.{is_start, is_digit}
 use Rattle.es5_lexer.specs.Suits.{is_div}
 use Rattle.es5_lexer.specs.Names.{IsName, name_token}
@@ -27,8 +28,8 @@ IsToken g EscapedWord u = IsName u × (name_token u ≡ EscapedWord)
 -- the character may not stand behind the token: behind a number no digit and nothing that begins a
 -- name (7.8.3), behind a division nothing that makes the slash begin a comment (7.4)
 abbrev pub is_barred : Token → ℕ → Bool
-is_barred Number c = is_digit c || (is_start c || (c == 92))
-is_barred (APunct Slash) c = (c == 47) || (c == 42)
+is_barred Number c = is_digit c || (is_start c || (c == reverse_solidus))
+is_barred (APunct Slash) c = (c == solidus) || (c == asterisk)
 is_barred _ c = false
 
 -- the token may stand before this

@@ -2,6 +2,7 @@
 -- 7.2, 7.3 and 7.4).
 use Rattle.std.specs.Prelude.{◌≡◌, ℕ, Bool, true, false, ◌&&◌, ◌||◌, not, List, [], ◌∷◌, ◌==◌, ◌⊎◌}
 use Rattle.std.specs.List.{list_any}
+use Rattle.es5_lexer.specs.CodePoints.{asterisk, solidus}
 use Rattle.es5_lexer.specs.Characters.{is_line_end, is_space}
 
 -- white space or a line terminator
@@ -22,8 +23,8 @@ EndsLine (c ∷ rest) = is_line_end c ≡ true
 abbrev pub IsCommentRest : Bool → List ℕ → Type 0
 IsCommentRest star [] = ⊥
 IsCommentRest star (c ∷ u) =
-    (((star && (c == 47)) ≡ true) × (u ≡ []))
-    ⊎ (((star && (c == 47)) ≡ false) × IsCommentRest (c == 42) u)
+    (((star && (c == solidus)) ≡ true) × (u ≡ []))
+    ⊎ (((star && (c == solidus)) ≡ false) × IsCommentRest (c == asterisk) u)
 
 -- what stands behind `/*`, the first `*/` included
 abbrev pub IsBlockComment : List ℕ → Type 0

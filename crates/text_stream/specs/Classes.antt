@@ -4,12 +4,13 @@ use Rattle.std.specs.Prelude.{◌≡◌, ◌↔◌, ◌⊎◌, ℕ, IsTrue, Bool
 use Rattle.ucd_category.specs.GeneralCategory.{general_category}
 use Rattle.ucd_category.specs.declared.GeneralCategory.{GeneralCategory}
 use Rattle.ucd_category.specs.declared.GeneralCategory.TheVariants.{UppercaseLetter, LowercaseLetter, TitlecaseLetter, ModifierLetter, OtherLetter, NonspacingMark, SpacingMark, DecimalNumber, LetterNumber, ConnectorPunctuation, SpaceSeparator}
+use Rattle.text_stream.specs.Characters.{tab, line_feed, vertical_tab, form_feed, carriage_return, space, dollar_sign, low_line, no_break_space, zero_width_non_joiner, zero_width_joiner, line_separator, paragraph_separator, zero_width_no_break_space, last_of_one_unit}
 use Rattle.text_stream.specs.declared.classes.CharClass.{CharClass}
 use Rattle.text_stream.specs.declared.classes.CharClass.TheVariants.{LineEnd, Space, NameStart, NamePart, Other}
 
 -- LineTerminator (section 7.3): LF, CR, and the separators of lines and of paragraphs
 abbrev pub is_line_terminator : ℕ → Bool
-is_line_terminator c = ((c == 0x000A) || (c == 0x000D)) || ((c == 0x2028) || (c == 0x2029))
+is_line_terminator c = ((c == line_feed) || (c == carriage_return)) || ((c == line_separator) || (c == paragraph_separator))
 
 -- Zs
 abbrev pub is_space_separator : GeneralCategory → Bool
@@ -19,7 +20,7 @@ is_space_separator _ = false
 -- WhiteSpace (section 7.2) by name: TAB, VT, FF, SP, NBSP, BOM
 abbrev pub is_named_space : ℕ → Bool
 is_named_space c =
-    (((c == 0x0009) || (c == 0x000B)) || ((c == 0x000C) || (c == 0x0020))) || ((c == 0x00A0) || (c == 0xFEFF))
+    (((c == tab) || (c == vertical_tab)) || ((c == form_feed) || (c == space))) || ((c == no_break_space) || (c == zero_width_no_break_space))
 
 -- UnicodeLetter (section 7.6): Lu, Ll, Lt, Lm, Lo, Nl
 abbrev pub is_letter : GeneralCategory → Bool
@@ -41,7 +42,7 @@ is_mark_digit_or_connector _ = false
 
 -- one code unit of UTF-16 writes the character
 abbrev pub is_one_unit : ℕ → Bool
-is_one_unit c = nat_le c 0xFFFF
+is_one_unit c = nat_le c last_of_one_unit
 
 -- the sets, with the general category of the character given
 abbrev pub is_white_space_of : GeneralCategory → ℕ → Bool
@@ -50,13 +51,13 @@ is_white_space_of category c = is_named_space c || is_space_separator category
 -- IdentifierStart without escapes: a letter, `$`, `_`
 abbrev pub is_name_start_of : GeneralCategory → ℕ → Bool
 is_name_start_of category c =
-    is_one_unit c && (is_letter category || ((c == 0x0024) || (c == 0x005F)))
+    is_one_unit c && (is_letter category || ((c == dollar_sign) || (c == low_line)))
 
 -- what IdentifierPart without escapes has beside IdentifierStart: marks, digits, connectors (`_` is
 -- one), ZWNJ, ZWJ
 abbrev pub is_further_part_of : GeneralCategory → ℕ → Bool
 is_further_part_of category c =
-    is_one_unit c && (is_mark_digit_or_connector category || ((c == 0x200C) || (c == 0x200D)))
+    is_one_unit c && (is_mark_digit_or_connector category || ((c == zero_width_non_joiner) || (c == zero_width_joiner)))
 
 -- the class of a character of the category
 abbrev pub class_in : GeneralCategory → ℕ → CharClass
