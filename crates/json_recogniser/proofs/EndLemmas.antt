@@ -8,7 +8,7 @@ use Rattle.json_recogniser.specs.declared.states.State.{State}
 use Rattle.json_recogniser.specs.declared.states.State.TheVariants as state
 use Rattle.json_recogniser.specs.declared.states.Part.TheVariants as part
 use Rattle.json_recogniser.specs.declared.states.Letters.TheVariants as letters
-use Rattle.json_recogniser.specs.Reading.{behind_chars, behind_items, behind_contents}
+use Rattle.json_recogniser.specs.Reading.{after_chars, after_items, after_contents}
 use Rattle.json_recogniser.specs.Residuals.{residual, may_end}
 
 -- nothing is open
@@ -17,7 +17,7 @@ is_bare [] = true
 is_bare (kind ∷ marks) = false
 
 pub ends_at : (s : State) (marks : List Container) → residual s marks [] ≡ (may_end s && is_bare marks)
-unfolding behind_chars behind_items behind_contents
+unfolding after_chars after_items after_contents
 ends_at state.Value marks = refl
 ends_at state.First [] = refl
 ends_at state.First (Array ∷ marks) = refl

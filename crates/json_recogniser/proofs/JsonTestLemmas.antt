@@ -14,7 +14,7 @@ use Rattle.json_recogniser.specs.declared.json_test.JsonTest.{JsonTest}
 use Rattle.json_recogniser.specs.declared.machine.Machine.{Machine}
 use Rattle.json_recogniser.proofs.RunLemmas.{text_run}
 use Rattle.json_recogniser.specs.Grammar.{IsJson, is_unescaped}
-use Rattle.json_recogniser.specs.Reading.{behind_spaces, behind_value}
+use Rattle.json_recogniser.specs.Reading.{after_spaces, after_whole_value}
 use Rattle.json_recogniser.specs.Residuals.{residual, is_json, is_nothing, is_dead_state, is_text_state, through, after_residual}
 use Rattle.json_recogniser.specs.Machines.{comes}
 use Rattle.json_recogniser.specs.JsonTest.{IsNever, is_dead, Reads, HasRead}
@@ -28,16 +28,16 @@ nothing_left [] is = refl
 nothing_left (c ∷ text) is = absurd (cc)
 
 pub json_to : (text : List ℕ) → is_json text ≡ true → IsJson text
-json_to text is = recognised text (read (behind_value 1024 (behind_spaces text)) is) where
-  read : (o : Option (List ℕ)) → through (after_residual []) o ≡ true → option_map behind_spaces o ≡ Some []
+json_to text is = recognised text (read (after_whole_value 1024 (after_spaces text)) is) where
+  read : (o : Option (List ℕ)) → through (after_residual []) o ≡ true → option_map after_spaces o ≡ Some []
   read None so = absurd (cc)
-  read (Some rest) so = ap Some (nothing_left (behind_spaces rest) so)
+  read (Some rest) so = ap Some (nothing_left (after_spaces rest) so)
 
 pub json_from : (text : List ℕ) → IsJson text → is_json text ≡ true
-json_from text json = read (behind_value 1024 (behind_spaces text)) (complete text json) where
-  read : (o : Option (List ℕ)) → option_map behind_spaces o ≡ Some [] → through (after_residual []) o ≡ true
+json_from text json = read (after_whole_value 1024 (after_spaces text)) (complete text json) where
+  read : (o : Option (List ℕ)) → option_map after_spaces o ≡ Some [] → through (after_residual []) o ≡ true
   read None lie = absurd (cc)
-  read (Some rest) so = let none : behind_spaces rest ≡ [] = cc in ap is_nothing none
+  read (Some rest) so = let none : after_spaces rest ≡ [] = cc in ap is_nothing none
 
 -- ---- dead tests
 

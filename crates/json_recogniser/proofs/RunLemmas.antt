@@ -4,7 +4,7 @@ use Rattle.std.specs.List.{list_all}
 use Rattle.std.specs.Char.{is_ascii}
 use Rattle.std.proofs.lemmas.Bool.{agree_below_at, and_parts}
 use Rattle.std.proofs.lemmas.Bool.Decides.{nat_tests}
-use Rattle.text_stream.specs.Decoding.{characters_behind}
+use Rattle.text_stream.specs.Decoding.{characters_after}
 use Rattle.text_stream.specs.Runs.{is_in}
 use Rattle.text_stream.proofs.RunLemmas.{characters_all}
 use Rattle.json_recogniser.specs.declared.states.Container.{Container}
@@ -66,7 +66,7 @@ text_run r marks (c ∷ run) text all =
     text_on r marks c (run ++ text) parts.0 ∙ text_run r marks run text parts.1
 
 -- the characters of such bytes stand for themselves too
-pub text_characters : (bytes : List ℕ) → list_all is_unescaped bytes ≡ true → list_all is_unescaped (characters_behind 0 bytes) ≡ true
+pub text_characters : (bytes : List ℕ) → list_all is_unescaped bytes ≡ true → list_all is_unescaped (characters_after 0 bytes) ≡ true
 text_characters bytes all = characters_all is_unescaped (λ c large scalar. grind (arith, nat_tests)) 0 bytes all
 
 -- ---- white space

@@ -1,7 +1,7 @@
 -- The grammar of JSON texts (RFC 8259), over characters, which are Unicode scalar values.
 --
 -- A tree is a derivation: it holds what the grammar leaves free, white space included, and is
--- spelled in front of what follows it. White space stands on both sides of a structural character,
+-- spelled before what follows it. White space stands on both sides of a structural character,
 -- so of an element, a name and a value; in an array or an object of none it stands once.
 use Rattle.std.specs.Prelude.{◌≡◌, ℕ, suc, ◌≤◌, max, ⊤, Bool, true, ◌||◌, ◌==◌, List, [], ◌∷◌, ◌++◌, codes}
 use Rattle.std.specs.List.{list_all}
@@ -112,7 +112,7 @@ number_text n rest = minus_text n.minus_part (int_text n.int_part (frac_text n.f
 
 -- ---- section 7: strings
 
--- char = unescaped / escape and what stands behind it
+-- char = unescaped / escape and what stands after it
 pub data Char : Type 0 where
   unescaped : ℕ → Char
   -- escape ( `"` / `\` / `/` / `b` / `f` / `n` / `r` / `t` )
@@ -174,7 +174,7 @@ mutual
 
   -- a name, a colon and a value, with the white space around each of both
   pub data Member : Type 0 where
-    member : (before : List ℕ) → (name : List Char) → (behind : List ℕ) → Element → Member
+    member : (before : List ℕ) → (name : List Char) → (after : List ℕ) → Element → Member
 
   -- one element or more, with commas between them
   pub data Elements : Type 0 where
@@ -183,7 +183,7 @@ mutual
 
   -- a value with the white space around it
   pub data Element : Type 0 where
-    element : (before : List ℕ) → Value → (behind : List ℕ) → Element
+    element : (before : List ℕ) → Value → (after : List ℕ) → Element
 
 abbrev mutual
   pub IsGood : Value → Type 0
@@ -202,15 +202,15 @@ abbrev mutual
   AreGoodMembers (member_and m ms) = IsGoodMember m × AreGoodMembers ms
 
   pub IsGoodMember : Member → Type 0
-  IsGoodMember (member before name behind e) =
-      AreSpaces before × AreGoodChars name × AreSpaces behind × IsGoodElement e
+  IsGoodMember (member before name after e) =
+      AreSpaces before × AreGoodChars name × AreSpaces after × IsGoodElement e
 
   pub AreGoodElements : Elements → Type 0
   AreGoodElements (last_element e) = IsGoodElement e
   AreGoodElements (element_and e es) = IsGoodElement e × AreGoodElements es
 
   pub IsGoodElement : Element → Type 0
-  IsGoodElement (element before v behind) = AreSpaces before × IsGood v × AreSpaces behind
+  IsGoodElement (element before v after) = AreSpaces before × IsGood v × AreSpaces after
 
 -- the greatest number of arrays and objects inside one another
 abbrev mutual
@@ -230,14 +230,14 @@ abbrev mutual
   members_depth (member_and m ms) = max (member_depth m) (members_depth ms)
 
   pub member_depth : Member → ℕ
-  member_depth (member before name behind e) = element_depth e
+  member_depth (member before name after e) = element_depth e
 
   pub elements_depth : Elements → ℕ
   elements_depth (last_element e) = element_depth e
   elements_depth (element_and e es) = max (element_depth e) (elements_depth es)
 
   pub element_depth : Element → ℕ
-  element_depth (element before v behind) = depth v
+  element_depth (element before v after) = depth v
 
 abbrev mutual
   pub value_text : Value → List ℕ → List ℕ
@@ -256,15 +256,15 @@ abbrev mutual
   members_text (member_and m ms) rest = member_text m (comma ∷ members_text ms rest)
 
   pub member_text : Member → List ℕ → List ℕ
-  member_text (member before name behind e) rest =
-      before ++ string_text name (behind ++ (colon ∷ element_text e rest))
+  member_text (member before name after e) rest =
+      before ++ string_text name (after ++ (colon ∷ element_text e rest))
 
   pub elements_text : Elements → List ℕ → List ℕ
   elements_text (last_element e) rest = element_text e rest
   elements_text (element_and e es) rest = element_text e (comma ∷ elements_text es rest)
 
   pub element_text : Element → List ℕ → List ℕ
-  element_text (element before v behind) rest = before ++ value_text v (behind ++ rest)
+  element_text (element before v after) rest = before ++ value_text v (after ++ rest)
 
 -- JSON-text = ws value ws, of a depth of at most 1,024 (section 9 leaves a limit to the parser)
 pub record IsJson (characters : List ℕ) : Type 0 where

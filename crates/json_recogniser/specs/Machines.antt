@@ -1,4 +1,4 @@
--- What may still come behind what a machine has read.
+-- What may still come after what a machine has read.
 use Rattle.std.specs.Prelude.{ℕ, Bool, List, reverse}
 use Rattle.json_recogniser.specs.declared.machine.Machine.{Machine}
 use Rattle.json_recogniser.specs.Residuals.{residual}

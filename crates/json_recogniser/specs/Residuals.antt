@@ -15,78 +15,78 @@ use Rattle.json_recogniser.specs.declared.states.Letters.TheVariants as letters
 use Rattle.json_recogniser.specs.declared.states.Move.{Move}
 use Rattle.json_recogniser.specs.declared.states.Move.TheVariants as move
 use Rattle.json_recogniser.specs.declared.states.Step.{Step}
-use Rattle.json_recogniser.specs.Reading.{without_leading, behind_spaces, behind_char, behind_word, behind_digits, behind_int, behind_frac, behind_sign, behind_exp, behind_escape, behind_string, behind_separator, behind_items, behind_all_items, behind_item_by, behind_contents, behind_value, behind_name, behind_colon, close_of}
+use Rattle.json_recogniser.specs.Reading.{without_leading, after_spaces, after_char, after_word, after_digits, after_int, after_frac, after_sign, after_exp, after_escape, after_string, after_separator, after_items, after_all_items, after_item_by, after_contents, after_whole_value, after_name, after_colon, close_of}
 
--- a test of what is behind a piece, if the piece stands there
+-- a test of what is after a piece, if the piece stands there
 abbrev pub through : (List ℕ → Bool) → Option (List ℕ) → Bool
 through rest None = false
 through rest (Some text) = rest text
 
 -- the items of an array or object that stands in so many others
 abbrev pub item_in : List Container → Container → List ℕ → Option (List ℕ)
-item_in marks kind text = behind_item_by (behind_contents (1023 - length marks)) kind text
+item_in marks kind text = after_item_by (after_contents (1023 - length marks)) kind text
 
 abbrev pub items_in : List Container → Container → List ℕ → Option (List ℕ)
-items_in marks kind text = behind_items (item_in marks kind) (close_of kind) (suc (length text)) text
+items_in marks kind text = after_items (item_in marks kind) (close_of kind) (suc (length text)) text
 
 abbrev pub is_nothing : List ℕ → Bool
 is_nothing [] = true
 is_nothing (c ∷ text) = false
 
--- behind a value, with these arrays and objects open, the innermost first
+-- after a value, with these arrays and objects open, the innermost first
 abbrev pub after_residual : List Container → List ℕ → Bool
-after_residual [] text = is_nothing (behind_spaces text)
+after_residual [] text = is_nothing (after_spaces text)
 after_residual (kind ∷ marks) text =
-    through (after_residual marks) (behind_separator (items_in marks kind) (behind_char comma (behind_spaces text)) (close_of kind) (behind_spaces text))
+    through (after_residual marks) (after_separator (items_in marks kind) (after_char comma (after_spaces text)) (close_of kind) (after_spaces text))
 
 -- before a value
 abbrev pub value_residual : List Container → List ℕ → Bool
-value_residual marks text = through (after_residual marks) (behind_value (1024 - length marks) (behind_spaces text))
+value_residual marks text = through (after_residual marks) (after_whole_value (1024 - length marks) (after_spaces text))
 
--- behind a name
+-- after a name
 abbrev pub colon_residual : List Container → List ℕ → Bool
-colon_residual marks text = through (value_residual marks) (behind_colon text)
+colon_residual marks text = through (value_residual marks) (after_colon text)
 
--- behind a bracket that opens
+-- after a bracket that opens
 abbrev pub first_residual : List Container → List ℕ → Bool
 first_residual [] text = false
-first_residual (kind ∷ marks) text = through (after_residual marks) (behind_all_items (item_in marks kind) (close_of kind) text)
+first_residual (kind ∷ marks) text = through (after_residual marks) (after_all_items (item_in marks kind) (close_of kind) text)
 
--- behind a comma
+-- after a comma
 abbrev pub item_residual : List Container → List ℕ → Bool
 item_residual [] text = false
 item_residual (kind ∷ marks) text = through (after_residual marks) (items_in marks kind text)
 
 -- before a name
 abbrev pub name_residual : List Container → List ℕ → Bool
-name_residual marks text = through (colon_residual marks) (behind_name text)
+name_residual marks text = through (colon_residual marks) (after_name text)
 
--- behind a string
-abbrev pub behind_text : Role → List Container → List ℕ → Bool
-behind_text role.Name marks text = colon_residual marks text
-behind_text role.Value marks text = after_residual marks text
+-- after a string
+abbrev pub after_string_residual : Role → List Container → List ℕ → Bool
+after_string_residual role.Name marks text = colon_residual marks text
+after_string_residual role.Value marks text = after_residual marks text
 
--- behind so many hexadecimal digits
-abbrev pub behind_hexes : ℕ → List ℕ → Option (List ℕ)
-behind_hexes zero text = Some text
-behind_hexes (suc n) [] = None
-behind_hexes (suc n) (c ∷ text) = if is_ascii_hexdigit c then behind_hexes n text else None
+-- after so many hexadecimal digits
+abbrev pub after_hexes : ℕ → List ℕ → Option (List ℕ)
+after_hexes zero text = Some text
+after_hexes (suc n) [] = None
+after_hexes (suc n) (c ∷ text) = if is_ascii_hexdigit c then after_hexes n text else None
 
 abbrev pub residual_of_text : Role → List Container → Option (List ℕ) → Bool
-residual_of_text r marks rest = through (behind_text r marks) (option_and_then behind_string rest)
+residual_of_text r marks rest = through (after_string_residual r marks) (option_and_then after_string rest)
 
-abbrev pub behind_part : Part → List ℕ → Option (List ℕ)
-behind_part part.Minus text = option_and_then behind_exp (option_and_then behind_frac (behind_int text))
-behind_part part.Zero text = option_and_then behind_exp (behind_frac text)
-behind_part part.Integer text = option_and_then behind_exp (behind_frac (without_leading is_ascii_digit text))
-behind_part part.Point text = option_and_then behind_exp (behind_digits text)
-behind_part part.Fraction text = behind_exp (without_leading is_ascii_digit text)
-behind_part part.E text = behind_digits (behind_sign text)
-behind_part part.Sign text = behind_digits text
-behind_part part.Exponent text = Some (without_leading is_ascii_digit text)
+abbrev pub after_part : Part → List ℕ → Option (List ℕ)
+after_part part.Minus text = option_and_then after_exp (option_and_then after_frac (after_int text))
+after_part part.Zero text = option_and_then after_exp (after_frac text)
+after_part part.Integer text = option_and_then after_exp (after_frac (without_leading is_ascii_digit text))
+after_part part.Point text = option_and_then after_exp (after_digits text)
+after_part part.Fraction text = after_exp (without_leading is_ascii_digit text)
+after_part part.E text = after_digits (after_sign text)
+after_part part.Sign text = after_digits text
+after_part part.Exponent text = Some (without_leading is_ascii_digit text)
 
 abbrev pub residual_of_number : Part → List Container → List ℕ → Bool
-residual_of_number p marks text = through (after_residual marks) (behind_part p text)
+residual_of_number p marks text = through (after_residual marks) (after_part p text)
 
 abbrev pub letters_of : Letters → List ℕ
 letters_of letters.Alse = codes "alse"
@@ -100,7 +100,7 @@ letters_of letters.Ll = codes "ll"
 letters_of letters.L = codes "l"
 
 abbrev pub residual_of_word : Letters → List Container → List ℕ → Bool
-residual_of_word l marks text = through (after_residual marks) (behind_word (letters_of l) text)
+residual_of_word l marks text = through (after_residual marks) (after_word (letters_of l) text)
 
 -- from each state
 abbrev pub residual : State → List Container → List ℕ → Bool
@@ -110,13 +110,13 @@ residual state.Item marks text = item_residual marks text
 residual state.Colon marks text = colon_residual marks text
 residual state.After marks text = after_residual marks text
 residual (state.Text r) marks text = residual_of_text r marks (Some text)
-residual (state.Escape r) marks text = residual_of_text r marks (behind_escape text)
-residual (state.Hex r more) marks text = residual_of_text r marks (behind_hexes (suc more) text)
+residual (state.Escape r) marks text = residual_of_text r marks (after_escape text)
+residual (state.Hex r more) marks text = residual_of_text r marks (after_hexes (suc more) text)
 residual (state.Number p) marks text = residual_of_number p marks text
 residual (state.Word l) marks text = residual_of_word l marks text
 residual state.Dead marks text = false
 
--- behind a step, whose move the marks make: at most 1,024 are open
+-- after a step, whose move the marks make: at most 1,024 are open
 abbrev pub moved_by : Move → State → List Container → List ℕ → Bool
 moved_by move.Stay s marks text = residual s marks text
 moved_by (move.Open kind) s marks text = if nat_lt (length marks) 1024 then residual s (kind ∷ marks) text else false

@@ -20,7 +20,7 @@ pub struct Machine {
 impl Machine {
     ghost use Rattle.json_recogniser.specs.Machines.{comes};
 
-    /// A machine at the front of a text.
+    /// A machine at the beginning of a text.
     pub fn new() -> Machine
         ensures { (text : List ℕ) → comes result text ≡ is_json text }
     {

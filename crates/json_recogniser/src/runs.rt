@@ -8,7 +8,7 @@ ghost use Rattle.std.specs.Char.{is_ascii};
 ghost use Rattle.json_recogniser.specs.declared.states.Container.{Container as AContainer};
 ghost use Rattle.json_recogniser.specs.Grammar.{is_unescaped};
 ghost use Rattle.json_recogniser.specs.Runs.{is_plain};
-ghost use Rattle.json_recogniser.specs.Residuals.{residual, residual_of_number, behind_text};
+ghost use Rattle.json_recogniser.specs.Residuals.{residual, residual_of_number, after_string_residual};
 
 use crate::states::{Part, Role, State};
 use text_stream::run_length;
@@ -60,7 +60,7 @@ fn plain_length(piece: &[u8]) -> usize
 fn after_text(role: Role, piece: &[u8]) -> (State, usize)
     ensures within { result.1 ≤ length piece.now }
     ensures ascii { list_all is_ascii (take result.1 piece.now) ≡ true }
-    ensures goes { (marks : List AContainer) (text : List ℕ) → residual result.0 marks text ≡ behind_text role marks (take result.1 piece.now ++ text) }
+    ensures goes { (marks : List AContainer) (text : List ℕ) → residual result.0 marks text ≡ after_string_residual role marks (take result.1 piece.now ++ text) }
 {
     match role {
         Role::Name => pass_colon(piece),

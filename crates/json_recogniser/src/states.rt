@@ -17,21 +17,21 @@ pub enum Container {
 /// What is expected next.
 #[derive(Clone, Copy, Debug)]
 pub enum State {
-    /// White space or a value: at the front, and behind a colon.
+    /// White space or a value: at the beginning, and after a colon.
     Value,
-    /// Behind the bracket that opens: white space, an item, or the bracket that closes.
+    /// After the bracket that opens: white space, an item, or the bracket that closes.
     First,
-    /// Behind a comma: white space or an item, which is a value in an array and a name in an object.
+    /// After a comma: white space or an item, which is a value in an array and a name in an object.
     Item,
-    /// Behind a name: white space or a colon.
+    /// After a name: white space or a colon.
     Colon,
-    /// Behind a value: white space, a comma, the bracket that closes, or the end.
+    /// After a value: white space, a comma, the bracket that closes, or the end.
     After,
     /// In a string: a character, or the quotation mark that ends it.
     Text(Role),
-    /// Behind a reverse solidus.
+    /// After a reverse solidus.
     Escape(Role),
-    /// Behind `\u`: a hexadecimal digit, and so many more.
+    /// After `\u`: a hexadecimal digit, and so many more.
     Hex(Role, u8),
     /// In a number.
     Number(Part),
@@ -50,7 +50,7 @@ pub enum Role {
     Value,
 }
 
-/// Behind which part of a number one stands (RFC 8259 section 6).
+/// After which part of a number one stands (RFC 8259 section 6).
 #[derive(Clone, Copy, Debug)]
 pub enum Part {
     /// The minus: a digit comes.

@@ -1,13 +1,13 @@
 //! What a character leads to, from each state.
 //!
-//! Each function is a part of the machine, and its contract is the whole truth of it: behind the step there may come exactly
-//! what may come behind the character before it.
+//! Each function is a part of the machine, and its contract is the whole truth of it: after the step there may come exactly
+//! what may come after the character before it.
 ghost use Rattle.std.specs.Prelude.{◌≡◌, ◌∷◌, ℕ, suc, List, Some};
 ghost use Rattle.json_recogniser.specs.declared.states.Container.{Container as AContainer};
 ghost use Rattle.json_recogniser.specs.Grammar.{is_white_space};
-ghost use Rattle.json_recogniser.specs.Reading.{behind_escape};
+ghost use Rattle.json_recogniser.specs.Reading.{after_escape};
 ghost use Rattle.json_recogniser.specs.Residuals.{residual, residual_of_text, residual_of_number, residual_of_word, moved, mark_of};
-ghost use Rattle.json_recogniser.specs.Residuals.{value_residual, name_residual, first_residual, item_residual, colon_residual, after_residual, behind_hexes};
+ghost use Rattle.json_recogniser.specs.Residuals.{value_residual, name_residual, first_residual, item_residual, colon_residual, after_residual, after_hexes};
 
 use crate::states::{Container, Letters, Move, Part, Role, State, Step};
 
@@ -21,7 +21,7 @@ fn stay(state: State) -> Step
     }
 }
 
-/// Behind an opening bracket.
+/// After an opening bracket.
 fn opening(container: Container) -> Step
     ensures { result ≡ record { state = State.First; marks = Move.Open container } }
 {
@@ -31,7 +31,7 @@ fn opening(container: Container) -> Step
     }
 }
 
-/// Behind a closing bracket.
+/// After a closing bracket.
 fn closing() -> Step
     ensures { result ≡ record { state = State.After; marks = Move.Close } }
 {
@@ -162,7 +162,7 @@ fn in_text(role: Role, c: char) -> Step
 }
 
 fn in_escape(role: Role, c: char) -> Step
-    ensures { (marks : List AContainer) (text : List ℕ) → moved result marks text ≡ residual_of_text role marks (behind_escape (c ∷ text)) }
+    ensures { (marks : List AContainer) (text : List ℕ) → moved result marks text ≡ residual_of_text role marks (after_escape (c ∷ text)) }
 {
     match c {
         'u' => stay(State::Hex(role, 3)),
@@ -172,7 +172,7 @@ fn in_escape(role: Role, c: char) -> Step
 }
 
 fn in_hex(role: Role, more: u8, c: char) -> Step
-    ensures { (marks : List AContainer) (text : List ℕ) → moved result marks text ≡ residual_of_text role marks (behind_hexes (suc more) (c ∷ text)) }
+    ensures { (marks : List AContainer) (text : List ℕ) → moved result marks text ≡ residual_of_text role marks (after_hexes (suc more) (c ∷ text)) }
 {
     if !c.is_ascii_hexdigit() {
         stay(State::Dead)

@@ -6,13 +6,13 @@ use Rattle.std.proofs.lemmas.Bool.Decides.{nat_tests}
 use Rattle.std.proofs.lemmas.List.{drop-append-le, get_or_append_left}
 use Rattle.bstr.proofs.lemmas.PieceLemmas.{piece-bounds, tail-continues, decoded_by-cut}
 use Rattle.bstr.specs.Utf8.{Decoded, decoded, decoded_by, bad, good, second, continues, code_of_2, code_of_3, or_replacement}
-use Rattle.text_stream.specs.Decoding.{further_bytes, further_bytes_of, characters_behind, characters_of, byte_order_mark}
+use Rattle.text_stream.specs.Decoding.{further_bytes, further_bytes_of, characters_after, characters_of, byte_order_mark}
 use Rattle.text_stream.specs.declared.decoder.Stage.{Stage}
-use Rattle.text_stream.specs.declared.decoder.Stage.TheVariants.{Front, Within, Finished}
+use Rattle.text_stream.specs.declared.decoder.Stage.TheVariants.{Start, Within, Finished}
 use Rattle.text_stream.specs.declared.decoder.Decoder.{Decoder}
 use Rattle.text_stream.specs.Decoder.{HasRead, PassesAscii, PassesText, GivesAllButThree, ahead_at, pending_at, is_pending}
 use Rattle.text_stream.specs.DecoderStages.{most_pending}
-use Rattle.text_stream.proofs.DecodingLemmas.{characters_behind-first}
+use Rattle.text_stream.proofs.DecodingLemmas.{characters_after-first}
 
 -- ---- what is settled by some bytes, whatever follows
 
@@ -74,7 +74,7 @@ four_bytes k a b c d =
     let four : nat_lt (suc (suc (suc (suc k)))) 4 ≡ false = grind (arith, nat_tests) in
     rw (some, two, three, four) refl
 
--- a character hangs on its own bytes alone, and four bytes settle what stands at their front
+-- a character hangs on its own bytes alone, and four bytes settle what stands at their beginning
 pub settled_some : (bytes more : List ℕ) (v : ℕ) → length bytes ≤ 4 → (decoded bytes).char ≡ Some v → decoded (bytes ++ more) ≡ decoded bytes
 settled_some [] more v few is = absurd (cc)
 settled_some (a ∷ []) more v few is = one_byte (length more) a (slice_index more 0) (slice_index more 1) (slice_index more 2) v is
@@ -91,22 +91,22 @@ settled_four (a ∷ b ∷ c ∷ []) more four = absurd (omega arith)
 settled_four (a ∷ b ∷ c ∷ d ∷ []) more four = four_bytes (length more) a b c d
 settled_four (a ∷ b ∷ c ∷ d ∷ e ∷ bytes) more four = absurd (omega arith)
 
--- the character at the front, once it is settled
+-- the character at the beginning, once it is settled
 pub settled_first : (bytes more : List ℕ) (c size : ℕ) → 0 < length bytes → c ≡ or_replacement (decoded bytes).char
     → size ≡ further_bytes (decoded bytes) + 1 → size ≤ length bytes → decoded (bytes ++ more) ≡ decoded bytes
-    → characters_behind 0 (bytes ++ more) ≡ c ∷ characters_behind 0 (drop size bytes ++ more)
+    → characters_after 0 (bytes ++ more) ≡ c ∷ characters_after 0 (drop size bytes ++ more)
 settled_first bytes more c size some is takes within settled =
     let whole : 0 < length (bytes ++ more) = omega (arith, length-append bytes more) in
-    let behind : suc (further_bytes (decoded (bytes ++ more))) ≡ size = omega (arith, takes, ap further_bytes settled) in
-    characters_behind-first (bytes ++ more) whole
-    ∙ ap (λ d. or_replacement d.char ∷ characters_behind 0 (drop (suc (further_bytes (decoded (bytes ++ more)))) (bytes ++ more))) settled
-    ∙ ap (λ x. x ∷ characters_behind 0 (drop (suc (further_bytes (decoded (bytes ++ more)))) (bytes ++ more))) (sym is)
-    ∙ ap (λ n. c ∷ characters_behind 0 (drop n (bytes ++ more))) behind
-    ∙ ap (λ t. c ∷ characters_behind 0 t) (drop-append-le size bytes more within)
+    let after : suc (further_bytes (decoded (bytes ++ more))) ≡ size = omega (arith, takes, ap further_bytes settled) in
+    characters_after-first (bytes ++ more) whole
+    ∙ ap (λ d. or_replacement d.char ∷ characters_after 0 (drop (suc (further_bytes (decoded (bytes ++ more)))) (bytes ++ more))) settled
+    ∙ ap (λ x. x ∷ characters_after 0 (drop (suc (further_bytes (decoded (bytes ++ more)))) (bytes ++ more))) (sym is)
+    ∙ ap (λ n. c ∷ characters_after 0 (drop n (bytes ++ more))) after
+    ∙ ap (λ t. c ∷ characters_after 0 t) (drop-append-le size bytes more within)
 
 -- ---- the byte order mark
 
-pub mark_off : (more : List ℕ) → characters_of (byte_order_mark ++ more) ≡ characters_behind 0 more
+pub mark_off : (more : List ℕ) → characters_of (byte_order_mark ++ more) ≡ characters_after 0 more
 unfolding characters_of
 mark_off more = refl
 
@@ -149,12 +149,12 @@ not_mark bytes more other few =
       begins (a ∷ b ∷ c ∷ d ∷ bytes) rest other few same = absurd (omega arith)
 
 pub no_mark : (bytes more : List ℕ) → starts_with nat_eq byte_order_mark bytes ≡ false → length bytes ≤ 3
-    → characters_of (bytes ++ more) ≡ characters_behind 0 (bytes ++ more)
+    → characters_of (bytes ++ more) ≡ characters_after 0 (bytes ++ more)
 unfolding characters_of
 no_mark bytes more other few = rw (not_mark bytes more other few) refl
 
 -- fewer than three bytes are no mark
-pub few_no_mark : (bytes : List ℕ) → length bytes ≤ 2 → characters_of bytes ≡ characters_behind 0 bytes
+pub few_no_mark : (bytes : List ℕ) → length bytes ≤ 2 → characters_of bytes ≡ characters_after 0 bytes
 unfolding characters_of
 few_no_mark [] few = refl
 few_no_mark (a ∷ []) few = rw (never (0xEF == a)) refl where
@@ -176,7 +176,7 @@ some_bytes (b ∷ bytes) v is = omega arith
 -- ---- decoders
 
 -- a byte below 128 is its character
-ascii_first : (b : ℕ) (more : List ℕ) → b < 128 → characters_behind 0 (b ∷ more) ≡ b ∷ characters_behind 0 more
+ascii_first : (b : ℕ) (more : List ℕ) → b < 128 → characters_after 0 (b ∷ more) ≡ b ∷ characters_after 0 more
 ascii_first b more ascii =
     let low : nat_lt b 0x80 ≡ true = grind (arith, nat_tests) in
     let is : decoded (b ∷ []) ≡ good b 1 = rw low refl in
@@ -190,10 +190,10 @@ passes_ascii decoder within none bytes given b ascii h = record {
       ap characters_of (append_assoc bytes (b ∷ []) more)
       ∙ h.gives (b ∷ more)
       ∙ ap (λ s. given ++ ahead_at s (decoder.pending.items ++ b ∷ more)) within
-      ∙ ap (λ p. given ++ characters_behind 0 (p ++ b ∷ more)) none
+      ∙ ap (λ p. given ++ characters_after 0 (p ++ b ∷ more)) none
       ∙ ap (λ t. given ++ t) (ascii_first b more ascii)
-      ∙ sym (append_assoc given (b ∷ []) (characters_behind 0 more))
-      ∙ ap (λ p. (given ++ b ∷ []) ++ characters_behind 0 (p ++ more)) (sym none)
+      ∙ sym (append_assoc given (b ∷ []) (characters_after 0 more))
+      ∙ ap (λ p. (given ++ b ∷ []) ++ characters_after 0 (p ++ more)) (sym none)
       ∙ ap (λ s. (given ++ b ∷ []) ++ ahead_at s (decoder.pending.items ++ more)) (sym within);
 }
 
@@ -240,8 +240,8 @@ takes_within xs some = by_char (decoded xs).char refl
         omega (arith, bounds.0, bounds.2, further)
 
 read_apart : (n : ℕ) (xs more : List ℕ) (b : ℕ) → length xs ≤ n → b < 128
-    → characters_behind 0 (xs ++ b ∷ more) ≡ characters_behind 0 xs ++ characters_behind 0 (b ∷ more)
-unfolding characters_behind
+    → characters_after 0 (xs ++ b ∷ more) ≡ characters_after 0 xs ++ characters_after 0 (b ∷ more)
+unfolding characters_after
 read_apart n [] more b few ascii = refl
 read_apart zero (x ∷ xs) more b few ascii = absurd (omega arith)
 read_apart (suc n) (x ∷ xs) more b few ascii =
@@ -253,7 +253,7 @@ read_apart (suc n) (x ∷ xs) more b few ascii =
     let left = length-drop size l in
     settled_first l (b ∷ more) (or_replacement (decoded l).char) size some refl (omega arith) within (sym same)
     ∙ ap (λ t. or_replacement (decoded l).char ∷ t) (read_apart n (drop size l) more b (omega arith) ascii)
-    ∙ ap (λ t. t ++ characters_behind 0 (b ∷ more)) (sym (characters_behind-first l some))
+    ∙ ap (λ t. t ++ characters_after 0 (b ∷ more)) (sym (characters_after-first l some))
 
 pub passes_text : (decoder : Decoder) → decoder.stage ≡ Within → decoder.pending.items ≡ [] → PassesText decoder
 passes_text decoder within none bytes given text b ascii h = record {
@@ -262,13 +262,13 @@ passes_text decoder within none bytes given text b ascii h = record {
       ap characters_of (append_assoc bytes (text ++ b ∷ []) more ∙ ap (λ t. bytes ++ t) (append_assoc text (b ∷ []) more))
       ∙ h.gives (text ++ b ∷ more)
       ∙ ap (λ s. given ++ ahead_at s (decoder.pending.items ++ (text ++ b ∷ more))) within
-      ∙ ap (λ p. given ++ characters_behind 0 (p ++ (text ++ b ∷ more))) none
+      ∙ ap (λ p. given ++ characters_after 0 (p ++ (text ++ b ∷ more))) none
       ∙ ap (λ t. given ++ t) (read_apart (length text) text more b (omega arith) ascii)
-      ∙ ap (λ t. given ++ (characters_behind 0 text ++ t)) (ascii_first b more ascii)
-      ∙ ap (λ t. given ++ t) (sym (append_assoc (characters_behind 0 text) (b ∷ []) (characters_behind 0 more)))
-      ∙ sym (append_assoc given (characters_behind 0 text ++ b ∷ []) (characters_behind 0 more))
-      ∙ ap (λ p. (given ++ (characters_behind 0 text ++ b ∷ [])) ++ characters_behind 0 (p ++ more)) (sym none)
-      ∙ ap (λ s. (given ++ (characters_behind 0 text ++ b ∷ [])) ++ ahead_at s (decoder.pending.items ++ more)) (sym within);
+      ∙ ap (λ t. given ++ (characters_after 0 text ++ t)) (ascii_first b more ascii)
+      ∙ ap (λ t. given ++ t) (sym (append_assoc (characters_after 0 text) (b ∷ []) (characters_after 0 more)))
+      ∙ sym (append_assoc given (characters_after 0 text ++ b ∷ []) (characters_after 0 more))
+      ∙ ap (λ p. (given ++ (characters_after 0 text ++ b ∷ [])) ++ characters_after 0 (p ++ more)) (sym none)
+      ∙ ap (λ s. (given ++ (characters_after 0 text ++ b ∷ [])) ++ ahead_at s (decoder.pending.items ++ more)) (sym within);
 }
 
 pub settled_passes : (decoder : Decoder) → is_pending decoder ≡ false → PassesAscii decoder
@@ -279,7 +279,7 @@ settled_passes decoder settled = by_parts decoder.stage decoder.pending.items re
       let some : (length (b ∷ items) == 0) ≡ false = grind (arith, nat_tests) in
       let lie : not (length (b ∷ items) == 0) ≡ true = ap not some in
       absurd (cc)
-  by_parts Front items within none is = absurd (cc)
+  by_parts Start items within none is = absurd (cc)
   by_parts Finished items within none is = absurd (cc)
 
 pub no_items : (items : List ℕ) (empty : Bool) → empty ≡ (length items == 0) → not empty ≡ false → items ≡ []
@@ -312,16 +312,16 @@ whole_mark (a ∷ b ∷ c ∷ d ∷ bytes) is long = absurd (omega arith)
 
 -- past the mark, or where the bytes aren't its beginning, they are read as they stand
 pub past_mark : (stage : Stage) (bytes more : List ℕ) → stage ≢ Finished
-    → (stage ≡ Front → starts_with nat_eq byte_order_mark bytes ≡ false) → (stage ≡ Front → length bytes ≤ 3)
-    → ahead_at stage (bytes ++ more) ≡ characters_behind 0 (bytes ++ more)
-past_mark Front bytes more can other few = no_mark bytes more (other refl) (few refl)
+    → (stage ≡ Start → starts_with nat_eq byte_order_mark bytes ≡ false) → (stage ≡ Start → length bytes ≤ 3)
+    → ahead_at stage (bytes ++ more) ≡ characters_after 0 (bytes ++ more)
+past_mark Start bytes more can other few = no_mark bytes more (other refl) (few refl)
 past_mark Within bytes more can other few = refl
 past_mark Finished bytes more can other few = absurd (can refl)
 
 -- at the end
-pub at_end : (stage : Stage) (bytes : List ℕ) → stage ≢ Finished → (stage ≡ Front → length bytes ≤ 2)
-    → ahead_at stage bytes ≡ characters_behind 0 bytes
-at_end Front bytes can few = few_no_mark bytes (few refl)
+pub at_end : (stage : Stage) (bytes : List ℕ) → stage ≢ Finished → (stage ≡ Start → length bytes ≤ 2)
+    → ahead_at stage bytes ≡ characters_after 0 bytes
+at_end Start bytes can few = few_no_mark bytes (few refl)
 at_end Within bytes can few = refl
 at_end Finished bytes can few = absurd (can refl)
 
@@ -329,13 +329,13 @@ at_end Finished bytes can few = absurd (can refl)
 pub all_but_three : (decoder : Decoder) (bytes given : List ℕ) → HasRead decoder bytes given → GivesAllButThree bytes given
 all_but_three decoder bytes given h = (decoder.pending.items, few decoder.stage decoder.few, stands decoder.stage h.can h.gives) where
   few : (stage : Stage) → length decoder.pending.items ≤ most_pending stage → length decoder.pending.items ≤ 3
-  few Front is = omega arith
+  few Start is = omega arith
   few Within is = is
   few Finished is = omega arith
 
   stands : (stage : Stage) → stage ≢ Finished → ((more : List ℕ) → characters_of (bytes ++ more) ≡ given ++ ahead_at stage (decoder.pending.items ++ more))
       → ((more : List ℕ) → characters_of (bytes ++ more) ≡ given ++ characters_of (decoder.pending.items ++ more))
-      ⊎ ((more : List ℕ) → characters_of (bytes ++ more) ≡ given ++ characters_behind 0 (decoder.pending.items ++ more))
-  stands Front can gives = inl gives
+      ⊎ ((more : List ℕ) → characters_of (bytes ++ more) ≡ given ++ characters_after 0 (decoder.pending.items ++ more))
+  stands Start can gives = inl gives
   stands Within can gives = inr gives
   stands Finished can gives = absurd (can refl)

@@ -6,7 +6,7 @@ use Rattle.std.proofs.lemmas.Bool.{and_parts, and_from, cases_Bool}
 use Rattle.std.proofs.lemmas.Bool.Decides.{nat_tests}
 use Rattle.bstr.specs.Utf8.{decoded, or_replacement}
 use Rattle.bstr.proofs.lemmas.SoundLemmas.{SpellsChar, SpellsChar-decoded}
-use Rattle.text_stream.specs.Decoding.{characters_behind, further_bytes}
+use Rattle.text_stream.specs.Decoding.{characters_after, further_bytes}
 
 -- sets that agree on bytes have the same runs
 pub same_run : (p q : ℕ → Bool) (piece : List ℕ) → ((b : ℕ) → b < 256 → p b ≡ q b) → ((k : ℕ) → get_or piece k 0 < 256) → prefix_len p piece ≡ prefix_len q piece
@@ -35,7 +35,7 @@ run_all p (b ∷ piece) = by_test (p b) refl (run_all p piece)
         let one : 1 + prefix_len p piece ≡ suc (prefix_len p piece) = omega arith in
         ap (λ (n : ℕ). list_all p (take n (b ∷ piece))) one ∙ both (p b) _ e h
 
--- what stands behind a run, as its first byte and the others, as a pattern gives them
+-- what stands after a run, as its first byte and the others, as a pattern gives them
 pub first_and_others : (text : List ℕ) → 1 ≤ length text → text ≡ get_or text 0 0 ∷ take (length text - 1) (drop 1 text)
 first_and_others [] some = absurd (omega arith)
 first_and_others (b ∷ text) some =
@@ -61,8 +61,8 @@ one_byte c small = rw small refl
 
 -- the characters of bytes are in a set that has these bytes and all characters from 128 on
 pub characters_all : (p : ℕ → Bool) → ((c : ℕ) → 128 ≤ c → IsScalar c → p c ≡ true) → (n : ℕ) (bytes : List ℕ) → list_all p bytes ≡ true
-    → list_all p (characters_behind n bytes) ≡ true
-unfolding characters_behind
+    → list_all p (characters_after n bytes) ≡ true
+unfolding characters_after
 characters_all p others n [] all = refl
 characters_all p others (suc n) (b ∷ bytes) all = characters_all p others n bytes (and_parts (p b) (list_all p bytes) all).1
 characters_all p others zero (b ∷ bytes) all =

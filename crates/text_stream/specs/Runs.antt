@@ -1,4 +1,4 @@
--- Runs of bytes at the front of a piece.
+-- Runs of bytes at the beginning of a piece.
 use Rattle.std.specs.Prelude.{ℕ, Bool, false, List, slice_index_or}
 
 -- the byte is in the table

@@ -1,6 +1,6 @@
 //! The classes of characters (ECMA-262 5.1, sections 7.2, 7.3 and 7.6).
 //!
-//! Nearly all characters of scripts are ASCII, and these have a table in front of the general
+//! Nearly all characters of scripts are ASCII, and these have a table before the general
 //! category. It is proved to agree with the definition.
 ghost use Rattle.std.specs.Prelude.{◌≡◌};
 ghost use Rattle.text_stream.specs.Classes.{is_line_terminator, is_white_space_of};
@@ -18,7 +18,7 @@ pub enum CharClass {
     Space,
     /// A character that may begin a name.
     NameStart,
-    /// A character that may stand in a name behind its first, and can't begin one.
+    /// A character that may stand in a name after its first, and can't begin one.
     NamePart,
     /// Any other character.
     Other,

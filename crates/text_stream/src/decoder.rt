@@ -1,13 +1,13 @@
 //! The characters of bytes that come one after the other.
 //!
-//! **What it keeps.** At most three bytes are pending. The character at the front of a text hangs on its first four bytes
+//! **What it keeps.** At most three bytes are pending. The character at the beginning of a text hangs on its first four bytes
 //! alone (Table 3-7), so a fourth byte always settles one, and often an earlier byte does. Before the first
 //! character the bytes of a byte order mark are pending too, until they are one or none.
 //!
 //! **Why a broken sequence waits.** `bstr` says of fewer than four bytes that no character stands there, and not
 //! whether one may still come. So what isn't a character yet waits for the fourth byte, and only then reads as U+FFFD.
 ghost use Rattle.std.specs.Prelude.{◌≡◌, ◌≢◌, ◌+◌, ◌<◌, ◌≤◌, ◌∷◌, ◌++◌, [], ℕ, List, false, length, take, drop, MatchOption};
-ghost use Rattle.text_stream.specs.Decoding.{characters_behind, characters_of};
+ghost use Rattle.text_stream.specs.Decoding.{characters_after, characters_of};
 ghost use Rattle.text_stream.specs.declared.decoder.Stage.TheVariants.{Finished};
 ghost use Rattle.text_stream.specs.DecoderStages.{most_pending};
 
@@ -18,11 +18,11 @@ use bstr::decode_utf8;
 /// Where a decoder stands in its text.
 #[derive(Clone, Copy, Debug, PartialEq, Eq)]
 enum Stage {
-    /// At the front, where a byte order mark may stand.
-    Front,
+    /// At the beginning, where a byte order mark may stand.
+    Start,
     /// Past it.
     Within,
-    /// Behind the end.
+    /// After the end.
     Finished,
 }
 
@@ -43,7 +43,7 @@ impl Decoder {
         ensures can { CanDecode result }
     {
         Decoder {
-            stage: Stage::Front,
+            stage: Stage::Start,
             pending: ArrayVec::new(),
         }
     }
@@ -56,7 +56,7 @@ impl Decoder {
     {
         let mut given = ArrayVec::new();
         self.pending.push(b);
-        if self.stage == Stage::Front && BYTE_ORDER_MARK.starts_with(self.pending.as_slice()) {
+        if self.stage == Stage::Start && BYTE_ORDER_MARK.starts_with(self.pending.as_slice()) {
             if self.pending.len() == BYTE_ORDER_MARK.len() {
                 self.pending.clear();
                 self.stage = Stage::Within;
@@ -68,7 +68,7 @@ impl Decoder {
         given
     }
 
-    /// The characters of the bytes that are pending at the end. Behind it the decoder takes no more calls.
+    /// The characters of the bytes that are pending at the end. After it the decoder takes no more calls.
     pub fn finish(&mut self) -> ArrayVec<char, 3>
         requires { CanDecode self.old }
         ensures value { (bytes given : List ℕ) → HasRead self.old bytes given → given ++ result.items ≡ characters_of bytes }
@@ -97,16 +97,16 @@ impl Decoder {
     {
         match self.stage {
             Stage::Within => !self.pending.is_empty(),
-            Stage::Front | Stage::Finished => true,
+            Stage::Start | Stage::Finished => true,
         }
     }
 }
 
-/// Gives the characters at the front of the bytes that are settled, whatever follows.
+/// Gives the characters at the beginning of the bytes that are settled, whatever follows.
 fn settle(pending: &mut ArrayVec<u8, 4>, given: &mut ArrayVec<char, 4>)
     requires { length given.old.items + length pending.old.items ≤ 4 }
-    ensures reads { (more : List ℕ) → given.old.items ++ characters_behind 0 (pending.old.items ++ more)
-        ≡ given.new.items ++ characters_behind 0 (pending.new.items ++ more) }
+    ensures reads { (more : List ℕ) → given.old.items ++ characters_after 0 (pending.old.items ++ more)
+        ≡ given.new.items ++ characters_after 0 (pending.new.items ++ more) }
     ensures few { length pending.new.items ≤ 3 }
 {
     'settling: while let Some((c, size)) = settled_character(pending.as_slice()) {
@@ -125,11 +125,11 @@ fn without_first(bytes: &ArrayVec<u8, 4>, size: usize) -> ArrayVec<u8, 4>
     rest
 }
 
-/// The character at the front of at most four bytes, and how many of them it takes, where it is settled whatever follows.
+/// The character at the beginning of at most four bytes, and how many of them it takes, where it is settled whatever follows.
 fn settled_character(bytes: &[u8]) -> Option<(char, usize)>
     requires { length bytes.now ≤ 4 }
-    ensures { MatchOption result (length bytes.now ≤ 3) (λ front. (0 < front.1) × (front.1 ≤ length bytes.now)
-        × ((more : List ℕ) → characters_behind 0 (bytes.now ++ more) ≡ front.0 ∷ characters_behind 0 (drop front.1 bytes.now ++ more))) }
+    ensures { MatchOption result (length bytes.now ≤ 3) (λ first. (0 < first.1) × (first.1 ≤ length bytes.now)
+        × ((more : List ℕ) → characters_after 0 (bytes.now ++ more) ≡ first.0 ∷ characters_after 0 (drop first.1 bytes.now ++ more))) }
 {
     match decode_utf8(bytes) {
         (Some(c), size) => Some((c, size)),
@@ -141,7 +141,7 @@ fn settled_character(bytes: &[u8]) -> Option<(char, usize)>
 /// The characters of at most three bytes at the end of a text.
 fn read_all(bytes: &[u8]) -> ArrayVec<char, 3>
     requires { length bytes.now ≤ 3 }
-    ensures { result.items ≡ characters_behind 0 bytes.now }
+    ensures { result.items ≡ characters_after 0 bytes.now }
 {
     let mut given = ArrayVec::new();
     let mut rest = bytes;

@@ -1,11 +1,11 @@
 //! The characters of bytes (The Unicode Standard, Table 3-7), a whole text at a time.
 //!
-//! `bstr` reads the one character at the front of some bytes. Its own way of reading a whole text
+//! `bstr` reads the one character at the beginning of some bytes. Its own way of reading a whole text
 //! isn't taken, because that gives one U+FFFD for as much of a broken sequence as could have been
 //! one, where the definition gives one for each byte.
 ghost use Rattle.std.specs.Prelude.{◌≡◌, ◌+◌, ◌<◌, ◌≤◌, ◌∷◌, ◌++◌, [], IfOk, length, vec_len, vec_capacity};
 ghost use Rattle.bstr.specs.Utf8.{decoded, or_replacement};
-ghost use Rattle.text_stream.specs.Decoding.{characters_behind, characters_of, further_bytes, without_mark};
+ghost use Rattle.text_stream.specs.Decoding.{characters_after, characters_of, further_bytes, without_mark};
 
 use bstr::decode_utf8;
 use std::alloc::Global;
@@ -31,7 +31,7 @@ pub fn decode_slice(alloc: Global, bytes: &[u8]) -> Result<Vec<char>, NoMemory>
     }
 }
 
-/// The bytes without one byte order mark at their front.
+/// The bytes without one byte order mark at their beginning.
 fn without_mark(bytes: &[u8]) -> &[u8]
     ensures value { result.now ≡ without_mark bytes.now }
     ensures within { length result.now ≤ length bytes.now }
@@ -46,7 +46,7 @@ fn without_mark(bytes: &[u8]) -> &[u8]
 /// Appends the characters of the bytes, for which there is room.
 fn append_characters(text: &mut Vec<char>, bytes: &[u8])
     requires { vec_len text.old + length bytes.now ≤ vec_capacity text.old }
-    ensures { text.new.items ≡ text.old.items ++ characters_behind 0 bytes.now }
+    ensures { text.new.items ≡ text.old.items ++ characters_after 0 bytes.now }
 {
     let mut rest = bytes;
     'reading: while !rest.is_empty() {
@@ -56,7 +56,7 @@ fn append_characters(text: &mut Vec<char>, bytes: &[u8])
     }
 }
 
-/// The character at the front of the bytes, and how many of them it takes.
+/// The character at the beginning of the bytes, and how many of them it takes.
 pub fn first_character(bytes: &[u8]) -> (char, usize)
     requires { 0 < length bytes.now }
     ensures character { result.0 ≡ or_replacement (decoded bytes.now).char }

@@ -2,7 +2,7 @@
 //!
 //! `specs/Decoding` defines the characters of bytes as UTF-8, and `specs/Classes` the classes. A
 //! broken sequence reads as one U+FFFD for each of its bytes, so that what a byte reads as never
-//! hangs on more than the three bytes behind it. Only [`decode_slice`] takes memory.
+//! hangs on more than the three bytes after it. Only [`decode_slice`] takes memory.
 #![tactic(auto)]
 
 mod classes;

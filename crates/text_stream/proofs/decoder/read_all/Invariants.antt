@@ -1,10 +1,10 @@
 use Rattle.std.proofs.Common.{◌≡◌, ◌+◌, ◌≤◌, ◌++◌, length}
-use Rattle.text_stream.specs.Decoding.{characters_behind}
+use Rattle.text_stream.specs.Decoding.{characters_after}
 use Rattle.text_stream.proofs.decoder.read_all.Given as goal
 
 abbrev pub invariant-reading : goal.invariant-reading
 invariant-reading l = record {
-  reads : l.given.items ++ characters_behind 0 l.rest ≡ characters_behind 0 l.bytes;
+  reads : l.given.items ++ characters_after 0 l.rest ≡ characters_after 0 l.bytes;
   room : length l.given.items + length l.rest ≤ 3;
 }
 

@@ -1,6 +1,6 @@
 use Rattle.std.proofs.Common.{◌<◌, ◌+◌, ◌++◌, ◌∷◌, [], take, get_or, refl, sym, ap, ◌∙◌, subst, ℕ, List, append_assoc}
 use Rattle.std.proofs.lemmas.List.{take_more}
-use Rattle.text_stream.specs.Decoding.{characters_behind}
+use Rattle.text_stream.specs.Decoding.{characters_after}
 use Rattle.text_stream.specs.Decoder.{HasRead as DecoderHasRead}
 use Rattle.json_recogniser.specs.Machines.{comes}
 use Rattle.json_recogniser.proofs.RunLemmas.{text_characters}
@@ -14,7 +14,7 @@ returns-then-run-piece-clause-reads c = λ bytes reads.
     let n = c.text_length-run.result in
     let b = get_or piece n 0 in
     let run = take n piece in
-    let given = characters_behind 0 run in
+    let given = characters_after 0 run in
     let small : b < 128 = c.text_length-run.ensures.ends c.if-run-piece.true in
     text_read test _ bytes (take (n + 1) piece) (given ++ b ∷ []) refl
     (λ before g read. subst (λ (t : List ℕ). DecoderHasRead test.decoder (before ++ t) (g ++ (given ++ b ∷ []))) (sym (take_more piece n 0 c.if-run-piece.true))
