@@ -4,11 +4,11 @@ use Rattle.es5_lexer.specs.Characters.{is_start, is_part, is_digit, is_hex, is_o
 use Rattle.es5_lexer.specs.Numbers.{is_nonzero, is_exponent_mark, is_hex_mark, is_sign}
 use Rattle.es5_lexer.specs.Strings.{quote_of, IsStringRest}
 use Rattle.es5_lexer.specs.Tokens.{is_barred}
-use Rattle.es5_lexer.specs.Begins.{IsFront, is_open_escape, EndsInEscape, Begins}
+use Rattle.es5_lexer.specs.Begins.{IsPrefix, is_open_escape, EndsInEscape, Begins}
 use Rattle.es5_lexer.specs.Suits.{is_div}
 use Rattle.es5_lexer.specs.Texts.{Mark, mark, chars, read_by, ended_in}
 use Rattle.es5_lexer.specs.Cuts.{Cut, cut, CutsFrom, lexemes_of}
-use Rattle.es5_lexer.specs.Places.{set_of, behind, is_dot, longer, first, behind_slash, behind_mark, mark as punct_of, next, next_by, next_in_parts, next_in_escape, ended, is_dead}
+use Rattle.es5_lexer.specs.Places.{set_of, after, is_dot, longer, first, past_slash, after_mark, mark as punct_of, next, next_by, next_in_parts, next_in_escape, ended, is_dead}
 use Rattle.es5_lexer.specs.PlaceResiduals.{with_seen, PlaceResidual}
 use Rattle.es5_lexer.specs.Reading.{token_of}
 use Rattle.es5_lexer.specs.Residuals.{onto, TokenFrom, From, own, Leads, LeadsFrom, is_dead_state}
@@ -47,7 +47,7 @@ use Rattle.es5_lexer.proofs.TokenLemmas.{name_unbarred}
 use Rattle.es5_lexer.proofs.OpenLemmas.{opened, token_first}
 use Rattle.es5_lexer.proofs.TokenSteps.{of_ended, prepend, way, none_longer, dead_from}
 use Rattle.es5_lexer.proofs.SlashLemmas.{first_slash, token_begins, last_token, empty_lexes}
-use Rattle.es5_lexer.proofs.EscapeSteps.{Continues, next_seen, Takes, on, behind_it, opens, start_backslash, place_backslash, as_within, line_backslash, start_dollar, part_dollar, mark_dollar}
+use Rattle.es5_lexer.proofs.EscapeSteps.{Continues, next_seen, Takes, on, after_it, opens, start_backslash, place_backslash, as_within, line_backslash, start_dollar, part_dollar, mark_dollar}
 
 -- nothing goes on from a dead state
 pub dead_state : (s : State) (read : List ℕ) (f : Bool) (w : List Mark) (end : Goal) (tokens : List Cut) → is_dead_state s ≡ true → From s read f w end tokens → ⊥
@@ -86,22 +86,22 @@ takes_of : (p : Place) (read : List ℕ) (f : Bool) (g : Goal) (w : List Mark) (
 takes_of p read f g w end tokens h =
     elim (way p read f g 36 w end tokens h) [
       | inl t ↦ on t.kind (chars t.before) (comes p t.kind 36 (chars t.before) t.completes)
-      | inr e ↦ behind_it e.kind (onto read []) e.completes (not_true _ e.free)
+      | inr e ↦ after_it e.kind (onto read []) e.completes (not_true _ e.free)
     ]
 
-slash_backslash : (r : Goal) (c : ℕ) (k : Option Kind) (t : State) → c ≡ 92 → Takes (behind_slash r) 36 → Leads Slash r c k t → Within EscapeMark t
-slash_backslash r c (Some k) t e h l = place_backslash (behind_slash r) r c (Some k) t e (opens (behind_slash r) h) l
+slash_backslash : (r : Goal) (c : ℕ) (k : Option Kind) (t : State) → c ≡ 92 → Takes (past_slash r) 36 → Leads Slash r c k t → Within EscapeMark t
+slash_backslash r c (Some k) t e h l = place_backslash (past_slash r) r c (Some k) t e (opens (past_slash r) h) l
 slash_backslash r c None LineComment e h l = tt
 slash_backslash r c None (BlockComment star) e h l = tt
-slash_backslash r c None Start e h l = place_backslash (behind_slash r) r c None Start e (opens (behind_slash r) h) l
-slash_backslash r c None Slash e h l = place_backslash (behind_slash r) r c None Slash e (opens (behind_slash r) h) l
-slash_backslash r c None (Token q) e h l = place_backslash (behind_slash r) r c None (Token q) e (opens (behind_slash r) h) l
+slash_backslash r c None Start e h l = place_backslash (past_slash r) r c None Start e (opens (past_slash r) h) l
+slash_backslash r c None Slash e h l = place_backslash (past_slash r) r c None Slash e (opens (past_slash r) h) l
+slash_backslash r c None (Token q) e h l = place_backslash (past_slash r) r c None (Token q) e (opens (past_slash r) h) l
 
 pub backslash_step : (s : State) (read : List ℕ) (f : Bool) (r : Goal) (c : ℕ) (k : Option Kind) (t : State) (w : List Mark) (end : Goal) (tokens : List Cut) → From s (own s read) f (mark r 36 ∷ w) end tokens → c ≡ 92 → Leads s r c k t → Within EscapeMark t
 backslash_step Start read f r c None t w end tokens h e l = start_backslash r c t e l
 backslash_step Start read f r c (Some k) t w end tokens h e l = absurd l
 backslash_step Slash read f r c k t w end tokens h e l =
-    slash_backslash r c k t e (takes_of (behind_slash r) (47 ∷ []) f r w end tokens (token_begins f r 36 w end tokens refl refl (opened f h.0 47 (mark r 36 ∷ w) end tokens h.1))) l
+    slash_backslash r c k t e (takes_of (past_slash r) (47 ∷ []) f r w end tokens (token_begins f r 36 w end tokens refl refl (opened f h.0 47 (mark r 36 ∷ w) end tokens h.1))) l
 backslash_step LineComment read f r c None t w end tokens h e l =
     as_within EscapeMark t LineComment (l ∙ else_in (λ (x : State). x ≡ LineComment) (is_line_end c) _ _ (ap is_line_end e ∙ line_backslash) refl) tt
 backslash_step LineComment read f r c (Some k) t w end tokens h e l = absurd l
@@ -117,7 +117,7 @@ backslash_step (Token p) read f r c k t w end tokens h e l =
 
 -- the escapes that a text ends in, by one character more
 
-pub within_step : (m : List Mark) (g : Goal) (c : ℕ) (t : State) → (IsFront (m ++ mark g 36 ∷ []) → c ≡ 92 → Within EscapeMark t) → ((seen : Seen) → EscapeAt seen m → Continues seen c → Within (next_seen seen c) t) → (later : Seen) → EscapeAt later (m ++ mark g c ∷ []) → Within later t
+pub within_step : (m : List Mark) (g : Goal) (c : ℕ) (t : State) → (IsPrefix (m ++ mark g 36 ∷ []) → c ≡ 92 → Within EscapeMark t) → ((seen : Seen) → EscapeAt seen m → Continues seen c → Within (next_seen seen c) t) → (later : Seen) → EscapeAt later (m ++ mark g c ∷ []) → Within later t
 within_step m g c t base step later h = by_digits (snoc_view h.digits)
   where
     no_digits : (s : Seen) → [] ≡ with_seen s [] → Within EscapeMark t → Within s t
@@ -161,7 +161,7 @@ within_step m g c t base step later h = by_digits (snoc_view h.digits)
         let r = snoc_same m h.before (mark g c) h.backslash (h.splits ∙ ap (λ (u : List Mark). h.before ++ h.backslash ∷ u) none) in
         let goals : h.backslash.reading ≡ g = ap (λ (x : Mark). x.reading) (sym r.1) in
         no_digits later (ap chars (sym none) ∙ h.spells)
-        (base (subst (λ (x : Goal). IsFront (m ++ mark x 36 ∷ [])) goals (subst (λ (u : List Mark). IsFront (u ++ mark h.backslash.reading 36 ∷ [])) (sym r.0) h.begins))
+        (base (subst (λ (x : Goal). IsPrefix (m ++ mark x 36 ∷ [])) goals (subst (λ (u : List Mark). IsPrefix (u ++ mark h.backslash.reading 36 ∷ [])) (sym r.0) h.begins))
         (ap (λ (x : Mark). x.character) r.1 ∙ h.is_backslash))
     by_digits (inr (v, x, e)) =
         let whole : m ++ mark g c ∷ [] ≡ (h.before ++ h.backslash ∷ v) ++ x ∷ [] = h.splits ∙ ap (λ (u : List Mark). h.before ++ h.backslash ∷ u) e ∙ sym (append_assoc h.before (h.backslash ∷ v) (x ∷ [])) in
@@ -201,7 +201,7 @@ escape_on m seen g c h d = record {
     still (ThreeDigits a b x) e o = absurd e
 
 -- an escape begins
-escape_new : (m : List Mark) (g : Goal) (c : ℕ) → c ≡ 92 → IsFront (m ++ mark g 36 ∷ []) → EscapeAt EscapeMark (m ++ mark g c ∷ [])
+escape_new : (m : List Mark) (g : Goal) (c : ℕ) → c ≡ 92 → IsPrefix (m ++ mark g 36 ∷ []) → EscapeAt EscapeMark (m ++ mark g c ∷ [])
 escape_new m g c e h = record {
   before = m;
   backslash = mark g c;
@@ -271,10 +271,10 @@ unfolding is_escape
 mark_no p c (Some q) = refl
 mark_no p c None = neither (is_dot p && is_digit c) _ _ refl refl
 
-parts_origin : (p : Place) (h : Host) (k : Kind) (c : ℕ) (host : Host) (later : Seen) → is_escape (behind h) ≡ false → ended p ≡ Some k → is_barred (token_of k []) 92 ≡ false → next_in_parts h c ≡ Escape host later → Origin p c later
+parts_origin : (p : Place) (h : Host) (k : Kind) (c : ℕ) (host : Host) (later : Seen) → is_escape (after h) ≡ false → ended p ≡ Some k → is_barred (token_of k []) 92 ≡ false → next_in_parts h c ≡ Escape host later → Origin p c later
 parts_origin p h k c host later n w f e =
     elim (split (λ (x : Place). x ≡ Escape host later) (is_part c) _ _ e) [
-      | inl (_, i) ↦ absurd (no_escape (behind h) host later n i)
+      | inl (_, i) ↦ absurd (no_escape (after h) host later n i)
       | inr (_, i) ↦ elim (split (λ (x : Place). x ≡ Escape host later) (c == 92) _ _ i) [
         | inl (t, j) ↦ let same : later ≡ EscapeMark = cc in from_whole k w f (is_same c 92 t) same
         | inr (_, j) ↦ absurd cc
@@ -285,11 +285,11 @@ digit_origin : (h : Host) (seen : Seen) (c : ℕ) (b : Bool) (host : Host) (late
 digit_origin h seen c true host later d e = let same : later ≡ next_seen seen c = cc in from_escape h seen refl (d refl) same
 digit_origin h seen c false host later d e = absurd cc
 
-behind_no : (h : Host) → is_escape (behind h) ≡ false
+after_no : (h : Host) → is_escape (after h) ≡ false
 unfolding is_escape
-behind_no FirstChar = refl
-behind_no LaterChar = refl
-behind_no FlagChar = refl
+after_no FirstChar = refl
+after_no LaterChar = refl
+after_no FlagChar = refl
 
 escape_origin : (h : Host) (seen : Seen) (c : ℕ) (host : Host) (later : Seen) → next_in_escape h seen c ≡ Escape host later → Origin (Escape h seen) c later
 unfolding is_escape
@@ -298,7 +298,7 @@ escape_origin h EscapeLetter c host later e = digit_origin h EscapeLetter c (is_
 escape_origin h (OneDigit a) c host later e = digit_origin h (OneDigit a) c (is_hex c) host later (λ t. t) e
 escape_origin h (TwoDigits a b) c host later e = digit_origin h (TwoDigits a b) c (is_hex c) host later (λ t. t) e
 escape_origin h (ThreeDigits a b d) c host later e =
-    absurd (no_escape _ host later (neither (is_escape_of (set_of h) a b d c) (behind h) Dead (behind_no h) refl) e)
+    absurd (no_escape _ host later (neither (is_escape_of (set_of h) a b d c) (after h) Dead (after_no h) refl) e)
 
 origin : (p : Place) (c : ℕ) (host : Host) (later : Seen) → next p c ≡ Escape host later → Origin p c later
 unfolding is_escape
@@ -328,11 +328,11 @@ first_escape g c host later e =
       ]
     ]
   where
-    by_mark : (o : Option Punct) → is_escape (behind_mark o) ≡ false
+    by_mark : (o : Option Punct) → is_escape (after_mark o) ≡ false
     by_mark (Some p) = refl
     by_mark None = refl
 
-    others : (b : Bool) (o : Option Punct) → is_escape (if c == 48 then Number Zero else if is_nonzero c then Number Digit else if c == 34 then Text Double Chars else if c == 39 then Text Single Chars else if c == 47 then (if b then AtMark TheSlash else Pattern BodyStart) else behind_mark o) ≡ false
+    others : (b : Bool) (o : Option Punct) → is_escape (if c == 48 then Number Zero else if is_nonzero c then Number Digit else if c == 34 then Text Double Chars else if c == 39 then Text Single Chars else if c == 47 then (if b then AtMark TheSlash else Pattern BodyStart) else after_mark o) ≡ false
     others b o = neither (c == 48) _ _ refl (neither (is_nonzero c) _ _ refl (neither (c == 34) _ _ refl (neither (c == 39) _ _ refl (neither (c == 47) _ _ (neither b _ _ refl refl) (by_mark o)))))
 
 -- a `$` where a backslash begins an escape
@@ -344,7 +344,7 @@ dollar_lexes : (f : Bool) (g : Goal) (c : ℕ) → c ≡ 36 → (tokens : List C
 dollar_lexes f g c e =
     (_, token_first f g c [] g _ (subst (λ (x : Place). TokenFrom x (c ∷ []) f [] g (cut (token_of AName (c ∷ [])) f [] ∷ [])) (sym (first_dollar g c e)) ((last_token Name (c ∷ []) f g AName refl).comes refl)))
 
--- behind a whole token
+-- after a whole token
 ends_dollar : (p : Place) (read : List ℕ) (f : Bool) (g : Goal) (k : Kind) → ended p ≡ Some k → is_dead (next p 36) ≡ true → is_barred (token_of k (onto read [])) 36 ≡ false → (tokens : List Cut) × TokenFrom p read f (mark g 36 ∷ []) g tokens
 ends_dollar p read f g k e dead free =
     let d = dollar_lexes false g 36 refl in (
@@ -405,16 +405,16 @@ dollar Dead read f g k e free = absurd cc
 
 -- what a step says of the escape that a text ends in then
 pub record Source (s : State) (read : List ℕ) (f : Bool) (m : List Mark) (g : Goal) : Type 0 where
-  pub dollar : (tokens : List Cut) → From s (own s read) f (mark g 36 ∷ []) g tokens → IsFront (m ++ mark g 36 ∷ [])
+  pub dollar : (tokens : List Cut) → From s (own s read) f (mark g 36 ∷ []) g tokens → IsPrefix (m ++ mark g 36 ∷ [])
   pub escape : (host : Host) (seen : Seen) → s ≡ Token (Escape host seen) → EscapeAt seen m
 
-by_whole : (m : List Mark) (g : Goal) (c : ℕ) (later : Seen) → c ≡ 92 → later ≡ EscapeMark → IsFront (m ++ mark g 36 ∷ []) → EscapeAt later (m ++ mark g c ∷ [])
-by_whole m g c later e same front =
-    subst (λ (x : Seen). EscapeAt x (m ++ mark g c ∷ [])) (sym same) (escape_new m g c e front)
+by_whole : (m : List Mark) (g : Goal) (c : ℕ) (later : Seen) → c ≡ 92 → later ≡ EscapeMark → IsPrefix (m ++ mark g 36 ∷ []) → EscapeAt later (m ++ mark g c ∷ [])
+by_whole m g c later e same prefix =
+    subst (λ (x : Seen). EscapeAt x (m ++ mark g c ∷ [])) (sym same) (escape_new m g c e prefix)
 
--- in a token, or behind a slash as in one
-by_place : (p : Place) (m : List Mark) (g : Goal) (c : ℕ) (k : Option Kind) (host : Host) (later : Seen) → ((j : Kind) → ended p ≡ Some j → is_barred (token_of j []) 92 ≡ false → IsFront (m ++ mark g 36 ∷ [])) → ((h : Host) (seen : Seen) → p ≡ Escape h seen → EscapeAt seen m) → LeadsFrom p g c k (Token (Escape host later)) → EscapeAt later (m ++ mark g c ∷ [])
-by_place p m g c None host later front before (inl (e, _)) = by_origin (origin p c host later same)
+-- in a token, or after a slash as in one
+by_place : (p : Place) (m : List Mark) (g : Goal) (c : ℕ) (k : Option Kind) (host : Host) (later : Seen) → ((j : Kind) → ended p ≡ Some j → is_barred (token_of j []) 92 ≡ false → IsPrefix (m ++ mark g 36 ∷ [])) → ((h : Host) (seen : Seen) → p ≡ Escape h seen → EscapeAt seen m) → LeadsFrom p g c k (Token (Escape host later)) → EscapeAt later (m ++ mark g c ∷ [])
+by_place p m g c None host later prefix before (inl (e, _)) = by_origin (origin p c host later same)
   where
     token_same : (x y : Place) → Token x ≡ Token y → y ≡ x
     token_same x y i = cc
@@ -425,22 +425,22 @@ by_place p m g c None host later front before (inl (e, _)) = by_origin (origin p
     by_origin : Origin p c later → EscapeAt later (m ++ mark g c ∷ [])
     by_origin (from_escape h seen i d j) =
         subst (λ (x : Seen). EscapeAt x (m ++ mark g c ∷ [])) (sym j) (escape_on m seen g c (before h seen i) d)
-    by_origin (from_whole j i free l n) = by_whole m g c later l n (front j i free)
-by_place p m g c None host later front before (inr d) = absurd (no_dead d.1)
+    by_origin (from_whole j i free l n) = by_whole m g c later l n (prefix j i free)
+by_place p m g c None host later prefix before (inr d) = absurd (no_dead d.1)
   where
     no_dead : false ≡ true → ⊥
     no_dead h = absurd cc
-by_place p m g c (Some k) host later front before (inl (e, free, l)) =
+by_place p m g c (Some k) host later prefix before (inl (e, free, l)) =
     let r = first_escape g c host later l in
-    by_whole m g c later r.0 r.1 (front k e (ap (λ (x : ℕ). is_barred (token_of k []) x) (sym r.0) ∙ free []))
-by_place p m g c (Some k) host later front before (inr d) = absurd (no_dead d.1)
+    by_whole m g c later r.0 r.1 (prefix k e (ap (λ (x : ℕ). is_barred (token_of k []) x) (sym r.0) ∙ free []))
+by_place p m g c (Some k) host later prefix before (inr d) = absurd (no_dead d.1)
   where
     no_dead : false ≡ true → ⊥
     no_dead h = absurd cc
 
-slash_no_escape : (g : Goal) (host : Host) (seen : Seen) → behind_slash g ≡ Escape host seen → ⊥
+slash_no_escape : (g : Goal) (host : Host) (seen : Seen) → past_slash g ≡ Escape host seen → ⊥
 unfolding is_escape
-slash_no_escape g host seen e = no_escape (behind_slash g) host seen (neither (is_div g) _ _ refl refl) e
+slash_no_escape g host seen e = no_escape (past_slash g) host seen (neither (is_div g) _ _ refl refl) e
 
 is_token : State → Bool
 is_token (Token q) = true
@@ -451,9 +451,9 @@ unfolding is_token
 no_token true s p n e = absurd cc
 no_token false s p n e = never (is_token s) (ap is_token (sym e)) n
 
-slash_front : (read : List ℕ) (f : Bool) (m : List Mark) (g : Goal) → Source Slash read f m g → (j : Kind) → ended (behind_slash g) ≡ Some j → is_barred (token_of j []) 92 ≡ false → IsFront (m ++ mark g 36 ∷ [])
-slash_front read f m g h j e free =
-    let d = dollar (behind_slash g) (47 ∷ []) f g j e free in
+slash_prefix : (read : List ℕ) (f : Bool) (m : List Mark) (g : Goal) → Source Slash read f m g → (j : Kind) → ended (past_slash g) ≡ Some j → is_barred (token_of j []) 92 ≡ false → IsPrefix (m ++ mark g 36 ∷ [])
+slash_prefix read f m g h j e free =
+    let d = dollar (past_slash g) (47 ∷ []) f g j e free in
     h.dollar d.0 (g, token_first f g 47 (mark g 36 ∷ []) g d.0 (subst (λ (x : Place). TokenFrom x (47 ∷ []) f (mark g 36 ∷ []) g d.0) (sym (first_slash g)) d.1))
 
 pub escape_step : (s : State) (read : List ℕ) (f : Bool) (m : List Mark) (g : Goal) (c : ℕ) (k : Option Kind) (host : Host) (later : Seen) → Source s read f m g → Leads s g c k (Token (Escape host later)) → EscapeAt later (m ++ mark g c ∷ [])
@@ -464,9 +464,9 @@ escape_step Start read f m g c None host later h l =
     by_whole m g c later r.0 r.1 (h.dollar d.0 d.1)
 escape_step Start read f m g c (Some k) host later h l = absurd l
 escape_step Slash read f m g c None host later h l =
-    by_place (behind_slash g) m g c None host later (slash_front read f m g h) (λ x seen e. absurd (slash_no_escape g x seen e)) l
+    by_place (past_slash g) m g c None host later (slash_prefix read f m g h) (λ x seen e. absurd (slash_no_escape g x seen e)) l
 escape_step Slash read f m g c (Some k) host later h l =
-    by_place (behind_slash g) m g c (Some k) host later (slash_front read f m g h) (λ x seen e. absurd (slash_no_escape g x seen e)) l
+    by_place (past_slash g) m g c (Some k) host later (slash_prefix read f m g h) (λ x seen e. absurd (slash_no_escape g x seen e)) l
 escape_step LineComment read f m g c None host later h l = absurd (no_token (is_line_end c) LineComment _ refl l)
 escape_step LineComment read f m g c (Some k) host later h l = absurd l
 escape_step (BlockComment star) read f m g c None host later h l =
@@ -548,7 +548,7 @@ whole_token p read f k u h = record {
 -- a lexer that isn't dead
 ends_in_escape : (seen : Seen) (m : List Mark) → EscapeAt seen m → EndsInEscape m
 ends_in_escape seen m h = record {
-  front = h.before;
+  prefix = h.before;
   backslash = h.backslash;
   digits = h.digits;
   splits = h.splits;
@@ -559,18 +559,18 @@ ends_in_escape seen m h = record {
 
 -- what a state says of the texts that go on from it
 record Continuing (s : State) (read : List ℕ) (f : Bool) (m : List Mark) : Type 0 where
-  pub front : (w : List Mark) (end : Goal) (tokens : List Cut) → From s (own s read) f w end tokens → IsFront m
+  pub prefix : (w : List Mark) (end : Goal) (tokens : List Cut) → From s (own s read) f w end tokens → IsPrefix m
   pub escape : (host : Host) (seen : Seen) → s ≡ Token (Escape host seen) → EscapeAt seen m
 
 begins_at : (s : State) (read : List ℕ) (f : Bool) (m : List Mark) → Continuing s read f m → is_dead_state s ≡ false → Begins m
-begins_at Start read f m h e = inl (h.front [] Div [] (empty_lexes f Div))
+begins_at Start read f m h e = inl (h.prefix [] Div [] (empty_lexes f Div))
 begins_at Slash read f m h e =
-    let t = (last_token (behind_slash Div) (47 ∷ []) f Div (APunct TheSlash) refl).comes refl in
-    inl (h.front [] Div _ (Div, token_first f Div 47 [] Div _ (subst (λ (x : Place). TokenFrom x (47 ∷ []) f [] Div (cut (TPunct TheSlash) f [] ∷ [])) (sym (first_slash Div)) t)))
+    let t = (last_token (past_slash Div) (47 ∷ []) f Div (APunct TheSlash) refl).comes refl in
+    inl (h.prefix [] Div _ (Div, token_first f Div 47 [] Div _ (subst (λ (x : Place). TokenFrom x (47 ∷ []) f [] Div (cut (TPunct TheSlash) f [] ∷ [])) (sym (first_slash Div)) t)))
 begins_at LineComment read f m h e =
-    inl (h.front [] Div [] (record { comment = []; after = []; spells = refl; is = refl; ends = tt; further = empty_lexes f Div }))
+    inl (h.prefix [] Div [] (record { comment = []; after = []; spells = refl; is = refl; ends = tt; further = empty_lexes f Div }))
 begins_at (BlockComment star) read f m h e =
-    inl (h.front (mark Div 42 ∷ mark Div 47 ∷ []) Div [] (record {
+    inl (h.prefix (mark Div 42 ∷ mark Div 47 ∷ []) Div [] (record {
       comment = mark Div 42 ∷ mark Div 47 ∷ [];
       after = [];
       spells = refl;
@@ -584,13 +584,13 @@ begins_at (BlockComment star) read f m h e =
 begins_at (Token p) read f m h e = by_alive (alive p e)
   where
     by_alive : Alive p → Begins m
-    by_alive (completes k u r) = inl (h.front (read_by Div u) Div _ (whole_token p read f k u r))
+    by_alive (completes k u r) = inl (h.prefix (read_by Div u) Div _ (whole_token p read f k u r))
     by_alive (escapes host seen i) =
         inr (ends_in_escape seen m (h.escape host seen (ap (λ (x : Place). Token x) i)))
 
 pub alive_begins : (v : Lexer) (m : List Mark) (given : List Lexeme) → HasRead v m given → is_dead_state v.state ≡ false → Begins m
 alive_begins v m given h e = begins_at v.state h.read v.newline m (record {
-  front = λ w end tokens x. record {
+  prefix = λ w end tokens x. record {
     back = w;
     end = end;
     tokens = given ++ lexemes_of tokens;
@@ -631,7 +631,7 @@ dead_begins v m given h e (inr x) =
     let s = seen_of (chars x.digits) x.is_open in
     no_within s.0 v.state e
     (h.within s.0 (record {
-      before = x.front;
+      before = x.prefix;
       backslash = x.backslash;
       digits = x.digits;
       splits = x.splits;

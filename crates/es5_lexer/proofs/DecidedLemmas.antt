@@ -6,7 +6,7 @@ use Rattle.es5_lexer.specs.Tokens.{is_barred}
 use Rattle.es5_lexer.specs.Texts.{Mark, mark, chars, ended_by, LexesEither}
 use Rattle.es5_lexer.specs.Cuts.{Cut, cuts, lexemes_of, cuts_at}
 use Rattle.es5_lexer.specs.Suits.{Suits}
-use Rattle.es5_lexer.specs.Places.{first, next, ended, is_dead, behind_slash}
+use Rattle.es5_lexer.specs.Places.{first, next, ended, is_dead, past_slash}
 use Rattle.es5_lexer.specs.Reading.{token_of}
 use Rattle.es5_lexer.specs.Residuals.{From, own, own_after, given_by, Steps, Ends}
 use Rattle.es5_lexer.specs.declared.tokens.Goal.{Goal}
@@ -70,7 +70,7 @@ from_start f g c = by (is_line_end c) (is_space c) (c == 47) refl refl refl
       steps = λ read. first_step read f g c l s h;
     }
 
--- whether the character may not stand behind a token of the kind
+-- whether the character may not stand after a token of the kind
 record Bars (k : Kind) (c : ℕ) : Type 0 where
   pub bars : Bool
   pub always : (u : List ℕ) → is_barred (token_of k u) c ≡ bars
@@ -111,9 +111,9 @@ from_token p f g c = by (is_dead (next p c)) (ended p) refl refl
     by true (Some k) d e = after_token p f g c k d e
 
 from_slash : (f : Bool) (g : Goal) (c : ℕ) → StepFrom Slash f g c
-from_slash f g c = by (c == 47) (c == 42) refl refl (from_token (behind_slash g) f g c)
+from_slash f g c = by (c == 47) (c == 42) refl refl (from_token (past_slash g) f g c)
   where
-    by : (line block : Bool) → (c == 47) ≡ line → (c == 42) ≡ block → StepFrom (Token (behind_slash g)) f g c → StepFrom Slash f g c
+    by : (line block : Bool) → (c == 47) ≡ line → (c == 42) ≡ block → StepFrom (Token (past_slash g)) f g c → StepFrom Slash f g c
     by true block l b t = record {
       given = None;
       state = LineComment;
@@ -188,10 +188,10 @@ end_in (Token p) f g = record {
   ends = λ read. token_end p read f g (is_some (ended p)) (ended p) refl (λ w. refl);
 }
 end_in Slash f g = record {
-  whole = is_some (ended (behind_slash g));
-  given = ended (behind_slash g);
-  ends = λ read. slash_end read f g (is_some (ended (behind_slash g))) (ended (behind_slash g))
-      (token_end (behind_slash g) (47 ∷ []) f g (is_some (ended (behind_slash g))) (ended (behind_slash g)) refl (λ w. refl));
+  whole = is_some (ended (past_slash g));
+  given = ended (past_slash g);
+  ends = λ read. slash_end read f g (is_some (ended (past_slash g))) (ended (past_slash g))
+      (token_end (past_slash g) (47 ∷ []) f g (is_some (ended (past_slash g))) (ended (past_slash g)) refl (λ w. refl));
 }
 
 -- it holds, or it doesn't

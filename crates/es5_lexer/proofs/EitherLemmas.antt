@@ -14,7 +14,7 @@ abbrev read_first : Goal → List Mark → List Mark
 read_first g [] = []
 read_first g (m ∷ q) = mark g m.character ∷ q
 
--- the items with each slash's reading behind it, where the goal comes first
+-- the items with each slash's reading after it, where the goal comes first
 abbrev read : Goal → (items : List Item) → FitEither items [] → List Item
 read g [] f = []
 read g (blank m ∷ items) f = blank (mark g m.character) ∷ read g items f.1
@@ -37,28 +37,28 @@ asked_is g (line a b q ∷ items) f = refl
 asked_is g (block a b q ∷ items) f = refl
 asked_is g (token t a q ∷ items) f = refl
 
-asked_behind : (g : Goal) (q : List Mark) (items : List Item) (f : FitEither items []) → asked (read_first g q ++ text (read g items f) []) (end_of g items f) ≡ g
-asked_behind g [] items f = asked_is g items f
-asked_behind g (m ∷ q) items f = refl
+asked_after : (g : Goal) (q : List Mark) (items : List Item) (f : FitEither items []) → asked (read_first g q ++ text (read g items f) []) (end_of g items f) ≡ g
+asked_after g [] items f = asked_is g items f
+asked_after g (m ∷ q) items f = refl
 
 chars_first : (g : Goal) (q : List Mark) → chars (read_first g q) ≡ chars q
 chars_first g [] = refl
 chars_first g (m ∷ q) = refl
 
 -- the same characters
-behind_same : (q r v w : List Mark) → chars q ≡ chars r → chars v ≡ chars w → chars (q ++ v) ≡ chars (r ++ w)
-behind_same q r v w e f =
+after_same : (q r v w : List Mark) → chars q ≡ chars r → chars v ≡ chars w → chars (q ++ v) ≡ chars (r ++ w)
+after_same q r v w e f =
     chars-append q v ∙ ap (λ (x : List ℕ). x ++ chars v) e ∙ ap (λ (x : List ℕ). chars r ++ x) f ∙ sym (chars-append r w)
 
 chars_same : (g : Goal) (items : List Item) (f : FitEither items []) → chars (text (read g items f) []) ≡ chars (text items [])
 chars_same g [] f = refl
 chars_same g (blank m ∷ items) f = ap (λ (x : List ℕ). m.character ∷ x) (chars_same g items f.1)
 chars_same g (line a b q ∷ items) f =
-    ap (λ (x : List ℕ). a.character ∷ b.character ∷ x) (behind_same q q _ _ refl (chars_same g items f.2))
+    ap (λ (x : List ℕ). a.character ∷ b.character ∷ x) (after_same q q _ _ refl (chars_same g items f.2))
 chars_same g (block a b q ∷ items) f =
-    ap (λ (x : List ℕ). a.character ∷ b.character ∷ x) (behind_same q q _ _ refl (chars_same g items f.1))
+    ap (λ (x : List ℕ). a.character ∷ b.character ∷ x) (after_same q q _ _ refl (chars_same g items f.1))
 chars_same g (token t a q ∷ items) f =
-    ap (λ (x : List ℕ). a.character ∷ x) (behind_same (read_first f.0.0 q) q _ _ (chars_first f.0.0 q) (chars_same f.0.0 items f.1))
+    ap (λ (x : List ℕ). a.character ∷ x) (after_same (read_first f.0.0 q) q _ _ (chars_first f.0.0 q) (chars_same f.0.0 items f.1))
 
 -- and tokens
 lexemes_same : (g : Goal) (items : List Item) (f : FitEither items []) (a : Bool) → lexemes a (read g items f) ≡ lexemes a items
@@ -82,7 +82,7 @@ fits_read g (line a b q ∷ items) f =
     (f.0, subst EndsLine (sym (chars_same g items f.2)) f.1, fits_read g items f.2)
 fits_read g (block a b q ∷ items) f = (f.0, fits_read g items f.1)
 fits_read g (token t a q ∷ items) f =
-    (stands_by _ f.0.0 t _ _ _ _ (asked_behind f.0.0 q items f.1) (ap (λ (x : List ℕ). a.character ∷ x) (chars_first f.0.0 q)) (chars_same f.0.0 items f.1) f.0.1, fits_read f.0.0 items f.1)
+    (stands_by _ f.0.0 t _ _ _ _ (asked_after f.0.0 q items f.1) (ap (λ (x : List ℕ). a.character ∷ x) (chars_first f.0.0 q)) (chars_same f.0.0 items f.1) f.0.1, fits_read f.0.0 items f.1)
 
 fits_either : (items : List Item) (end : Goal) → Fit items [] end → FitEither items []
 fits_either [] end h = tt

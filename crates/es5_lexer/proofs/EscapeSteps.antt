@@ -62,7 +62,7 @@ hex_no_line c h = not_line c (λ t. absurd (clash c h t)) (is_line_end c) refl
     clash : (n : ℕ) → is_hex n ≡ true → is_line_terminator n ≡ true → ⊥
     clash n x y = grind (arith, nat_tests)
 
--- a character of an escape behind what is seen of it
+-- a character of an escape after what is seen of it
 abbrev pub Continues : Seen → ℕ → Type 0
 Continues EscapeMark c = c ≡ 117
 Continues EscapeLetter c = is_hex c ≡ true
@@ -278,15 +278,15 @@ mark_free : (p : Punct) → is_barred (token_of (APunct p) []) 92 ≡ false
 mark_free TheSlash = refl
 mark_free _ = refl
 
--- a `$` goes on with the token, or stands behind it
+-- a `$` goes on with the token, or stands after it
 pub data Takes (p : Place) (c : ℕ) : Type 0 where
   on : (k : Kind) (u : List ℕ) → PlaceResidual p k (c ∷ u) → Takes p c
-  behind_it : (k : Kind) (u : List ℕ) → PlaceResidual p k [] → is_barred (token_of k u) c ≡ false → Takes p c
+  after_it : (k : Kind) (u : List ℕ) → PlaceResidual p k [] → is_barred (token_of k u) c ≡ false → Takes p c
 
--- a backslash goes on with it to where an escape leaves it, or stands behind it
+-- a backslash goes on with it to where an escape leaves it, or stands after it
 pub data Opens (p : Place) : Type 0 where
   in_it : (q : Place) → next p 92 ≡ q → is_dead q ≡ false → ((k : Kind) → ended p ≡ Some k → (k ≡ AName) ⊎ (k ≡ APattern)) → Within EscapeMark (Token q) → Opens p
-  behind_it : is_dead (next p 92) ≡ true → (k : Kind) → ended p ≡ Some k → is_barred (token_of k []) 92 ≡ false → Opens p
+  after_it : is_dead (next p 92) ≡ true → (k : Kind) → ended p ≡ Some k → is_barred (token_of k []) 92 ≡ false → Opens p
 
 part_backslash : is_part 92 ≡ false
 part_backslash = ap is_part_class backslash
@@ -295,7 +295,7 @@ parts_backslash : (host : Host) → next_in_parts host 92 ≡ Escape host Escape
 parts_backslash host = else_in (λ (x : Place). x ≡ Escape host EscapeMark) (is_part 92) _ _ part_backslash refl
 
 no_digits : (host : Host) (seen : Seen) → Takes (Escape host seen) 36 → ⊥
-no_digits host seen (behind_it k u r _) = escape_open host seen r.1
+no_digits host seen (after_it k u r _) = escape_open host seen r.1
 no_digits host seen (on k u r) = dead_rest (next_in_escape host seen 36) (escape_dollar host seen) k u (goes (Escape host seen) k 36 u r)
   where
     dead_rest : (p : Place) → p ≡ Dead → (l : Kind) (v : List ℕ) → PlaceResidual p l v → ⊥
@@ -318,7 +318,7 @@ no_digits host seen (on k u r) = dead_rest (next_in_escape host seen 36) (escape
 
 no_number : (p : NumberPlace) → Takes (Number p) 36 → ⊥
 no_number p (on k u r) = subst (λ (y : Place). PlaceResidual y k u) (number_dollar p) (goes (Number p) k 36 u r)
-no_number p (behind_it k u r f) =
+no_number p (after_it k u r f) =
     never (is_start 36) start_dollar (second (is_start 36) (subst (λ (x : Kind). is_barred (token_of x u) 36 ≡ false) r.0 f))
   where
     second : (a : Bool) → (false || (a || false)) ≡ false → a ≡ false
@@ -331,10 +331,10 @@ text_backslash Single = refl
 
 hex_dollar : (q : Quote) (l : Left) → Takes (Text q (Hex l)) 36 → ⊥
 hex_dollar q l (on k u r) = goes (Text q (Hex l)) k 36 u r
-hex_dollar q One (behind_it k u r f) = r.1
-hex_dollar q Two (behind_it k u r f) = r.1
-hex_dollar q Three (behind_it k u r f) = r.1
-hex_dollar q Four (behind_it k u r f) = r.1
+hex_dollar q One (after_it k u r f) = r.1
+hex_dollar q Two (after_it k u r f) = r.1
+hex_dollar q Three (after_it k u r f) = r.1
+hex_dollar q Four (after_it k u r f) = r.1
 
 not_ended : (p : Place) → ended p ≡ None → (k : Kind) → ended p ≡ Some k → (k ≡ AName) ⊎ (k ≡ APattern)
 not_ended p e k f = absurd cc
@@ -348,13 +348,13 @@ is_pattern_kind k e = let same : k ≡ APattern = cc in inr same
 pub opens : (p : Place) → Takes p 36 → Opens p
 opens Name h = in_it (Escape LaterChar EscapeMark) (parts_backslash LaterChar) refl is_name_kind refl
 opens (Escape host seen) h = absurd (no_digits host seen h)
-opens (AtMark p) h = behind_it (mark_backslash p) (APunct p) refl (mark_free p)
+opens (AtMark p) h = after_it (mark_backslash p) (APunct p) refl (mark_free p)
 opens (Number p) h = absurd (no_number p h)
 opens (Text q Chars) h = in_it (Text q TextEscape) (text_backslash q) refl (not_ended (Text q Chars) refl) (inr refl)
 opens (Text q TextEscape) h = in_it (Text q Chars) refl refl (not_ended (Text q TextEscape) refl) (inl refl)
 opens (Text q Cr) h = in_it (Text q TextEscape) (text_backslash q) refl (not_ended (Text q Cr) refl) (inr refl)
 opens (Text q (Hex l)) h = absurd (hex_dollar q l h)
-opens (Text q End) h = behind_it refl AText refl refl
+opens (Text q End) h = after_it refl AText refl refl
 opens (Pattern BodyStart) h = in_it (Pattern BodyEscape) refl refl (not_ended (Pattern BodyStart) refl) refl
 opens (Pattern Body) h = in_it (Pattern BodyEscape) refl refl (not_ended (Pattern Body) refl) refl
 opens (Pattern BodyEscape) h =
@@ -364,7 +364,7 @@ opens (Pattern ClassEscape) h =
     in_it (Pattern Class) (else_in (λ (x : Place). x ≡ Pattern Class) (is_line_end 92) _ _ line_backslash refl) refl (not_ended (Pattern ClassEscape) refl) tt
 opens (Pattern Flags) h = in_it (Escape FlagChar EscapeMark) (parts_backslash FlagChar) refl is_pattern_kind refl
 opens Dead (on k u r) = absurd r
-opens Dead (behind_it k u r f) = absurd r
+opens Dead (after_it k u r f) = absurd r
 
 -- where a backslash leads to
 
@@ -384,10 +384,10 @@ place_backslash p g c None t e (in_it q n live kinds w) (inr h) =
 place_backslash p g c (Some k) t e (in_it q n live kinds w) (inl h) = start_backslash g c t e h.2
 place_backslash p g c (Some k) t e (in_it q n live kinds w) (inr h) =
     never (is_dead (next p c)) h.0 (ap (λ (x : ℕ). is_dead (next p x)) e ∙ ap is_dead n ∙ live)
-place_backslash p g c None t e (behind_it dead j f free) (inl h) =
+place_backslash p g c None t e (after_it dead j f free) (inl h) =
     never (is_dead (next p c)) (ap (λ (x : ℕ). is_dead (next p x)) e ∙ dead) h.1
-place_backslash p g c None t e (behind_it dead j f free) (inr h) =
+place_backslash p g c None t e (after_it dead j f free) (inr h) =
     never (is_barred (token_of j []) c) (h.2 j f []) (ap (λ (x : ℕ). is_barred (token_of j []) x) e ∙ free)
-place_backslash p g c (Some k) t e (behind_it dead j f free) (inl h) = start_backslash g c t e h.2
-place_backslash p g c (Some k) t e (behind_it dead j f free) (inr h) =
+place_backslash p g c (Some k) t e (after_it dead j f free) (inl h) = start_backslash g c t e h.2
+place_backslash p g c (Some k) t e (after_it dead j f free) (inr h) =
     never (is_barred (token_of j []) c) (h.2 j f []) (ap (λ (x : ℕ). is_barred (token_of j []) x) e ∙ free)

@@ -1,4 +1,4 @@
--- The first character of a token: what may come behind it, and back.
+-- The first character of a token: what may come after it, and back.
 use Rattle.std.proofs.Common.{◌≡◌, ℕ, true, false, ◌==◌, if◌then◌else◌, Option, Some, None, List, [], ◌∷◌, ◌++◌, inl, inr, refl, sym, ap, subst, ◌∙◌, append_assoc, arith}
 use Rattle.std.proofs.lemmas.Bool.Decides.{nat_tests}
 use Rattle.ucd_category.specs.GeneralCategory.{general_category}
@@ -9,7 +9,7 @@ use Rattle.es5_lexer.specs.Characters.{is_start, is_digit, is_start_class}
 use Rattle.es5_lexer.specs.Suits.{is_div}
 use Rattle.es5_lexer.specs.Punctuators.{spelling, is_under}
 use Rattle.es5_lexer.specs.Numbers.{is_nonzero, IsFraction, IsNumber}
-use Rattle.es5_lexer.specs.Places.{mark, by_equals, by_itself, longer, behind_slash, behind_mark, first}
+use Rattle.es5_lexer.specs.Places.{mark, by_equals, by_itself, longer, past_slash, after_mark, first}
 use Rattle.es5_lexer.specs.PlaceResiduals.{IsKind, MarkResidual, PlaceResidual}
 use Rattle.es5_lexer.specs.declared.tokens.Goal.{Goal}
 use Rattle.es5_lexer.specs.declared.tokens.Goal.TheVariants.{RegExp}
@@ -25,7 +25,7 @@ use Rattle.es5_lexer.proofs.ClassLemmas.{backslash, slash, double_quote, single_
 abbrev At : Kind → List ℕ → Place → Type 0
 At k u s = PlaceResidual s k u
 
--- what may come behind the first character of this text
+-- what may come after the first character of this text
 abbrev FirstRest : Goal → Punct → List ℕ → Type 0
 FirstRest g q [] = ⊥
 FirstRest g q (c ∷ u) = PlaceResidual (first g c) (APunct q) u
@@ -239,14 +239,14 @@ first_goes g APattern c u (d, (e, h)) =
     (else_in (At APattern u) (is_start 47) _ _ (ap is_start_class slash)
     (else_in (At APattern u) (is_div g) _ _ d (refl, h)))
 
-slash_comes : (g : Goal) (k : Kind) (c : ℕ) (u : List ℕ) → c ≡ 47 → PlaceResidual (behind_slash g) k u → IsKind g k (c ∷ u)
+slash_comes : (g : Goal) (k : Kind) (c : ℕ) (u : List ℕ) → c ≡ 47 → PlaceResidual (past_slash g) k u → IsKind g k (c ∷ u)
 slash_comes g k c u e h =
     elim (split (At k u) (is_div g) _ _ h) [
       | inl (d, r) ↦ mark_whole g Slash k u (c ∷ u) (ap (λ (x : ℕ). x ∷ u) e) d r
       | inr (d, (f, r)) ↦ as_kind g k APattern (c ∷ u) f (d, (e, r))
     ]
 
-mark_comes : (g : Goal) (k : Kind) (c : ℕ) (u : List ℕ) (o : Option Punct) → mark c ≡ o → PlaceResidual (behind_mark o) k u → IsKind g k (c ∷ u)
+mark_comes : (g : Goal) (k : Kind) (c : ℕ) (u : List ℕ) (o : Option Punct) → mark c ≡ o → PlaceResidual (after_mark o) k u → IsKind g k (c ∷ u)
 mark_comes g k c u (Some p) e h =
     let s = mark_single c p e in
     mark_whole g p k u (c ∷ u) (ap (λ (x : List ℕ). x ++ u) (sym s.0)) (under_both g p s.1) h

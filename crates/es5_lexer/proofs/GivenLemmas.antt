@@ -2,7 +2,7 @@
 use Rattle.std.proofs.Common.{◌≡◌, ℕ, suc, ◌≤◌, Bool, false, List, [], ◌∷◌, ◌++◌, length, refl, sym, ap, subst, ◌∙◌, append_assoc, length-append, arith}
 use Rattle.es5_lexer.specs.Trivia.{EndsLine}
 use Rattle.es5_lexer.specs.Tokens.{Stands}
-use Rattle.es5_lexer.specs.Texts.{Mark, chars, asked, Item, blank, line, block, token, text, Fit, ended_by, ended_in, ended_behind, lexemes, EndWithin}
+use Rattle.es5_lexer.specs.Texts.{Mark, chars, asked, Item, blank, line, block, token, text, Fit, ended_by, ended_in, ended_after, lexemes, EndWithin}
 use Rattle.es5_lexer.specs.Cuts.{Cut, cut, cuts, CutsFrom, lexemes_of}
 use Rattle.es5_lexer.specs.Residuals.{From, own}
 use Rattle.es5_lexer.specs.Lexing.{HasRead}
@@ -56,7 +56,7 @@ Near n (x ∷ tokens) = x.left ≤ n
 -- the tokens of the items before others
 record First (items others : List Item) (f : Bool) : Type 0 where
   pub tokens : List Cut
-  pub spells : cuts f (items ++ others) ≡ tokens ++ cuts (ended_behind f items) others
+  pub spells : cuts f (items ++ others) ≡ tokens ++ cuts (ended_after f items) others
   pub lexemes : lexemes_of tokens ≡ lexemes f items
   pub far : Far (length (text others [])) tokens
 
@@ -137,7 +137,7 @@ ended_given v m last given h w end tokens x =
     }) in
     let a = first x.items x.others false in
     let far : Far (suc (length w)) a.tokens = far_less (length (text x.others [])) (suc (length w)) a.tokens (omega (arith, ap length x.spells, length-append x.gap (last ∷ w))) a.far in
-    let b = among (length w) a.tokens (h.cuts w) y.others (cuts (ended_behind false x.items) x.others) (sym a.spells ∙ y.is) far (near_from v.state (own v.state h.read) v.newline w end y.others y.from) in
+    let b = among (length w) a.tokens (h.cuts w) y.others (cuts (ended_after false x.items) x.others) (sym a.spells ∙ y.is) far (near_from v.state (own v.state h.read) v.newline w end y.others y.from) in
     (lexemes_of b.0, same_lexemes a.tokens (h.cuts w) b.0 given tokens (h.lexemes w) b.1 (a.lexemes ∙ sym x.gives))
   where
     far_less : (n k : ℕ) (t : List Cut) → k ≤ n → Far n t → Far k t

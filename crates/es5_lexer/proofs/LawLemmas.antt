@@ -36,7 +36,7 @@ alone (line a b q) items rest = refl
 alone (block a b q) items rest = refl
 alone (token t a q) items rest = refl
 
--- equal texts go on alike behind items that leave as much
+-- equal texts go on alike after items that leave as much
 backs : (i j : Item) (k l : List Item) → text (i ∷ k) [] ≡ text (j ∷ l) [] → length (chars (text k [])) ≡ length (chars (text l [])) → text k [] ≡ text l []
 backs i j k l e h =
     same_last (own i) (text k []) (own j) (text l []) (sym (own_text i k []) ∙ e ∙ own_text j l [])
@@ -69,9 +69,9 @@ empty_text (block a b q) l rest e = absurd cc
 empty_text (token t a q) l rest e = absurd cc
 
 -- the tail of a list
-behind_first : List Mark → List Mark
-behind_first [] = []
-behind_first (m ∷ w) = w
+after_first : List Mark → List Mark
+after_first [] = []
+after_first (m ∷ w) = w
 
 trivia_both : (i j : Item) (k l : List Item) (a : Bool) (end : Goal) → has_token (i ∷ []) ≡ false → has_token (j ∷ []) ≡ false → text (i ∷ k) [] ≡ text (j ∷ l) [] → Fit (i ∷ k) [] end → Fit (j ∷ l) [] end → ((b : Bool) → text k [] ≡ text l [] → lexemes b k ≡ lexemes b l) → lexemes a (i ∷ k) ≡ lexemes a (j ∷ l)
 trivia_both i j k l a end o p e f g further =
@@ -84,9 +84,9 @@ trivia_both i j k l a end o p e f g further =
     ∙ ap (λ (b : Bool). lexemes (if b then true else a) l) ends ∙ sym (item_lexemes j l a p)
 
 tokens_both : (t s : Token) (m n : Mark) (q r : List Mark) (k l : List Item) (a : Bool) (end : Goal) → text (token t m q ∷ k) [] ≡ text (token s n r ∷ l) [] → Fit (token t m q ∷ k) [] end → Fit (token s n r ∷ l) [] end → (text k [] ≡ text l [] → lexemes false k ≡ lexemes false l) → lexemes a (token t m q ∷ k) ≡ lexemes a (token s n r ∷ l)
-unfolding behind_first
+unfolding after_first
 tokens_both t s m n q r k l a end e f g further =
-    let goals : asked (q ++ text k []) end ≡ asked (r ++ text l []) end = ap (λ (w : List Mark). asked (behind_first w) end) e in
+    let goals : asked (q ++ text k []) end ≡ asked (r ++ text l []) end = ap (λ (w : List Mark). asked (after_first w) end) e in
     let both : Some (t, length (chars (text k []))) ≡ Some (s, length (chars (text l []))) = sym (token_found t m q k end f) ∙ ap (λ (x : Goal). token_at x (chars (text (token t m q ∷ k) []))) goals ∙ ap (λ (w : List Mark). token_at (asked (r ++ text l []) end) (chars w)) e ∙ token_found s n r l end g in
     let same = pair_of _ _ both in
     ap (λ (x : Token). record { token = x; newline = a } ∷ lexemes false k) same.token

@@ -4,7 +4,7 @@ use Rattle.std.proofs.lemmas.List.{take-append-le}
 use Rattle.std.proofs.lemmas.Bool.Decides.{nat_tests}
 use Rattle.es5_lexer.specs.Characters.{is_line_end, is_part, is_start, is_hex, escaped, is_escape_of, is_part_class, is_start_class}
 use Rattle.es5_lexer.specs.Names.{AreParts, IsName, spelled, spelled_escape, spelled_with, is_escaped, reserved_words, word_in, word_of, ident_of, token_by, name_token}
-use Rattle.es5_lexer.specs.Places.{set_of, first, next, is_dead, behind_slash}
+use Rattle.es5_lexer.specs.Places.{set_of, first, next, is_dead, past_slash}
 use Rattle.es5_lexer.specs.PlaceResiduals.{IsKind, kind_in, with_seen, EscapeResidual, MarkResidual, PlaceResidual}
 use Rattle.es5_lexer.specs.Residuals.{onto, own, own_after, Leads, LeadsFrom, LeadsStart, is_dead_state, is_name_place, is_in_name}
 use Rattle.es5_lexer.specs.Letters.{kept_letter, kept, with_letter, letter, ends_escape, token_of_letters, spelled_from, escaped_from, Spells, Hears, HeardAt}
@@ -304,7 +304,7 @@ dead_no_name : (p : Place) (u : List ℕ) → is_dead p ≡ true → PlaceResidu
 dead_no_name Dead u e h = h
 dead_no_name _ u e h = absurd cc
 
--- the letters of l and one more, by the character behind the place
+-- the letters of l and one more, by the character after the place
 pub record Reads (old new : Letters) (s : Place) (c : ℕ) : Type 0 where
   pub letters : new.letters.items ≡ with_letter old.letters.items (letter s c)
   pub escapes : new.escapes ≡ (old.escapes || ends_escape s)
@@ -343,20 +343,20 @@ after_token new s g c k t x (inl e) = starts_at new g c t x e.2
 after_token new s g c k t x (inr d) = heard_dead new t (c ∷ []) d.1
 
 -- no name begins with a slash
-pub slash_no_name : (g : Goal) (u : List ℕ) → PlaceResidual (behind_slash g) AName u → ⊥
+pub slash_no_name : (g : Goal) (u : List ℕ) → PlaceResidual (past_slash g) AName u → ⊥
 slash_no_name g u r = by_half (is_div g) r
   where
     by_half : (b : Bool) → PlaceResidual (if b then AtMark TheSlash else Pattern BodyStart) AName u → ⊥
     by_half true h = mark_no_name TheSlash u h
     by_half false (k, h) = absurd cc
 
-by_slash : (new : Letters) (g : Goal) (c : ℕ) (t : State) → LeadsFrom (behind_slash g) g c None t → HeardAt new t (c ∷ 47 ∷ [])
+by_slash : (new : Letters) (g : Goal) (c : ℕ) (t : State) → LeadsFrom (past_slash g) g c None t → HeardAt new t (c ∷ 47 ∷ [])
 by_slash new g c t (inl e) =
-    subst (λ (u : State). HeardAt new u (c ∷ 47 ∷ [])) (sym e.0) (λ u r. absurd (slash_no_name g (c ∷ u) (comes (behind_slash g) AName c u r)))
+    subst (λ (u : State). HeardAt new u (c ∷ 47 ∷ [])) (sym e.0) (λ u r. absurd (slash_no_name g (c ∷ u) (comes (past_slash g) AName c u r)))
 by_slash new g c t (inr d) = heard_dead new t (c ∷ 47 ∷ []) d.1
 
 after_slash : (new : Letters) (g : Goal) (c : ℕ) (given : Option Kind) (t : State) → Begins new c → Leads Slash g c given t → HeardAt new t (own_after given (47 ∷ []) c)
-after_slash new g c (Some k) t x e = after_token new (behind_slash g) g c k t x e
+after_slash new g c (Some k) t x e = after_token new (past_slash g) g c k t x e
 after_slash new g c None (Token q) x e = by_slash new g c (Token q) e
 after_slash new g c None Start x e = tt
 after_slash new g c None Slash x e = tt
@@ -416,7 +416,7 @@ follow_in old new b s g c None t read e n x =
 
 -- a whole name, a character at a time
 
--- what is left of a name behind the characters read
+-- what is left of a name after the characters read
 pub record NameFrom (l : Letters) (place : Place) (rest text : List ℕ) : Type 0 where
   pub read : List ℕ
   pub hears : Hears l.letters.items l.escapes place read

@@ -5,12 +5,12 @@ use Rattle.es5_lexer.specs.Trivia.{is_line_comment, EndsLine, IsCommentRest}
 use Rattle.es5_lexer.specs.Texts.{Mark, mark, chars, ended_in, Lexes}
 use Rattle.es5_lexer.specs.Cuts.{Cut, CutsFrom, lexemes_of, cuts_at}
 use Rattle.es5_lexer.specs.Suits.{is_div, suits, Suits}
-use Rattle.es5_lexer.specs.Places.{next, ended, behind_slash}
+use Rattle.es5_lexer.specs.Places.{next, ended, past_slash}
 use Rattle.es5_lexer.specs.PlaceResiduals.{MarkResidual, PlaceResidual}
 use Rattle.es5_lexer.specs.Reading.{token_of}
 use Rattle.es5_lexer.specs.Residuals.{onto, TokenFrom, LineFrom, BlockFrom, From, GoesOn, own, own_after, given_by, Steps, Ends, EndsAs, Leads, LeadsFrom, is_dead_state}
 use Rattle.es5_lexer.specs.Letters.{Hears, HeardAt, token_of_kind, given_lexemes}
-use Rattle.es5_lexer.specs.Begins.{IsFront}
+use Rattle.es5_lexer.specs.Begins.{IsPrefix}
 use Rattle.es5_lexer.specs.Lexing.{Residual, Within, HasRead}
 use Rattle.es5_lexer.specs.declared.tokens.Goal.{Goal}
 use Rattle.es5_lexer.specs.declared.tokens.Token.{Token as AToken}
@@ -115,8 +115,8 @@ given_same : (l : Letters) (k : Kind) (p : Place) (read : List ℕ) (f : Bool) �
 given_same l k p read f h e =
     ap (λ (t : AToken). record { token = t; newline = f } ∷ []) (kind_same l k p read h e)
 
--- the letters don't matter behind a slash
-slash_hears : (l : Letters) (g : Goal) → Hears l.letters.items l.escapes (behind_slash g) (47 ∷ [])
+-- the letters don't matter after a slash
+slash_hears : (l : Letters) (g : Goal) → Hears l.letters.items l.escapes (past_slash g) (47 ∷ [])
 slash_hears l g u r = absurd (slash_no_name g u r)
 
 from_place : (l : Letters) (p : Place) (g : Goal) (c : ℕ) (k : Option Kind) (t : State) (read : List ℕ) (f : Bool) → Hears l.letters.items l.escapes p read → LeadsFrom p g c k t → Gives k read f (given_lexemes l k f) t
@@ -127,12 +127,12 @@ from_place l p g c (Some k) t read f h (inr d) = inr d.1
 gives_of : (l : Letters) (s : State) (g : Goal) (c : ℕ) (k : Option Kind) (t : State) (read : List ℕ) (f : Bool) → HeardAt l s (own s read) → Leads s g c k t → Gives k (own s read) f (given_lexemes l k f) t
 gives_of l s g c None t read f h e = inl refl
 gives_of l (Token p) g c (Some k) t read f h e = from_place l p g c (Some k) t read f h e
-gives_of l Slash g c (Some k) t read f h e = from_place l (behind_slash g) g c (Some k) t (47 ∷ []) f (slash_hears l g) e
+gives_of l Slash g c (Some k) t read f h e = from_place l (past_slash g) g c (Some k) t (47 ∷ []) f (slash_hears l g) e
 gives_of l Start g c (Some k) t read f h e = absurd e
 gives_of l LineComment g c (Some k) t read f h e = absurd e
 gives_of l (BlockComment star) g c (Some k) t read f h e = absurd e
 
--- what a step says of the lexer behind it
+-- what a step says of the lexer after it
 own_heard : (l : Letters) (t : State) (read : List ℕ) → HeardAt l t read → HeardAt l t (own t read)
 own_heard l (Token p) read h = h
 own_heard l Start read h = h
@@ -152,7 +152,7 @@ source v m given g h = record {
   escape = h.escape;
 }
 
-base : (v u : Lexer) (m : List Mark) (given : List Lexeme) (g : Goal) (c : ℕ) (k : Option Kind) → HasRead v m given → Leads v.state g c k u.state → IsFront (m ++ mark g 36 ∷ []) → c ≡ 92 → Within EscapeMark u.state
+base : (v u : Lexer) (m : List Mark) (given : List Lexeme) (g : Goal) (c : ℕ) (k : Option Kind) → HasRead v m given → Leads v.state g c k u.state → IsPrefix (m ++ mark g 36 ∷ []) → c ≡ 92 → Within EscapeMark u.state
 base v u m given g c k h leads x e =
     let y = going v m given h (mark g 36 ∷ x.back) x.end x.tokens (subst (λ (z : List Mark). Lexes z x.end x.tokens) (append_assoc m (mark g 36 ∷ []) x.back) x.lexes) in
     backslash_step v.state h.read v.newline g c k u.state x.back x.end y.others y.from e leads
@@ -249,7 +249,7 @@ slash_marks k (c ∷ u) (inl (q, e, h)) =
     assign (d ∷ v) (inl (r, f, i)) =
         elim (split (λ (o : Option Punct). o ≡ Some r) (d == 61) _ _ f) [ inl (_, x) ↦ absurd cc | inr (_, x) ↦ absurd cc ]
 
-slash_half : (other goal : Goal) (k : Kind) (u v : List ℕ) → PlaceResidual (behind_slash other) k u → suits (token_of k v) goal ≡ true → is_div goal ≡ is_div other
+slash_half : (other goal : Goal) (k : Kind) (u v : List ℕ) → PlaceResidual (past_slash other) k u → suits (token_of k v) goal ≡ true → is_div goal ≡ is_div other
 slash_half other goal k u v r s =
     elim (split (λ (p : Place). PlaceResidual p k u) (is_div other) _ _ r) [
       | inl (d, h) ↦ by_mark d (slash_marks k u h)
@@ -260,7 +260,7 @@ slash_half other goal k u v r s =
     by_mark d (inl e) = subst (λ (x : Kind). suits (token_of x v) goal ≡ true) e s ∙ sym d
     by_mark d (inr e) = subst (λ (x : Kind). suits (token_of x v) goal ≡ true) e s ∙ sym d
 
-same_slash : (g h : Goal) → is_div g ≡ is_div h → behind_slash g ≡ behind_slash h
+same_slash : (g h : Goal) → is_div g ≡ is_div h → past_slash g ≡ past_slash h
 same_slash g h e = ap (λ (b : Bool). if b then AtMark TheSlash else Pattern BodyStart) e
 
 -- the goal suits the first of the tokens
@@ -279,11 +279,11 @@ slash_change f other goal c w end tokens fits (g, l) = (g, by_first (opened f g 
         let head : mark other c ≡ d = cc in let tail : w ≡ v = cc in
         block_first f g (mark goal c) w end tokens (ap (λ (y : Mark). y.character) head ∙ s) (subst (λ (y : List Mark). BlockFrom false f y end tokens) (sym tail) x)
     by_first (a_token t) =
-        let at : TokenFrom (behind_slash other) (47 ∷ []) f (mark other c ∷ w) end tokens = subst (λ (p : Place). TokenFrom p (47 ∷ []) f (mark other c ∷ w) end tokens) (first_slash other) t in
+        let at : TokenFrom (past_slash other) (47 ∷ []) f (mark other c ∷ w) end tokens = subst (λ (p : Place). TokenFrom p (47 ∷ []) f (mark other c ∷ w) end tokens) (first_slash other) t in
         let half = slash_half other goal at.kind (chars at.before) _ at.completes (fits _ at.others at.gives) in
         token_first f g 47 (mark goal c ∷ w) end tokens
         (subst (λ (p : Place). TokenFrom p (47 ∷ []) f (mark goal c ∷ w) end tokens) (sym (first_slash goal ∙ same_slash goal other half))
-        (token_change (behind_slash other) (47 ∷ []) f other goal c w end tokens at))
+        (token_change (past_slash other) (47 ∷ []) f other goal c w end tokens at))
 
 pub change : (s : State) (read : List ℕ) (f : Bool) (other goal : Goal) (c : ℕ) (w : List Mark) (end : Goal) (tokens : List Cut) → Fitting goal tokens → From s read f (mark other c ∷ w) end tokens → From s read f (mark goal c ∷ w) end tokens
 change Start read f other goal c w end tokens fits h = reread f other goal c w end tokens h
@@ -331,11 +331,11 @@ slash_end_change f other goal tokens fits (g, l) = (g, by_first (opened f g 47 [
     by_first (a_line d v _ e s x) = absurd cc
     by_first (a_block d v _ e s x) = absurd cc
     by_first (a_token t) =
-        let at : TokenFrom (behind_slash other) (47 ∷ []) f [] other tokens = subst (λ (p : Place). TokenFrom p (47 ∷ []) f [] other tokens) (first_slash other) t in
+        let at : TokenFrom (past_slash other) (47 ∷ []) f [] other tokens = subst (λ (p : Place). TokenFrom p (47 ∷ []) f [] other tokens) (first_slash other) t in
         let half = slash_half other goal at.kind (chars at.before) _ at.completes (fits _ at.others at.gives) in
         token_first f g 47 [] goal tokens
         (subst (λ (p : Place). TokenFrom p (47 ∷ []) f [] goal tokens) (sym (first_slash goal ∙ same_slash goal other half))
-        (token_end_change (behind_slash other) (47 ∷ []) f other goal tokens at))
+        (token_end_change (past_slash other) (47 ∷ []) f other goal tokens at))
 
 pub change_end : (s : State) (read : List ℕ) (f : Bool) (other goal : Goal) (tokens : List Cut) → Fitting goal tokens → From s read f [] other tokens → From s read f [] goal tokens
 change_end Start read f other goal tokens fits h = end_change f other goal tokens h
@@ -376,7 +376,7 @@ last_by_place l p read f (Some k) h e = given_same l k p read f h (sym e)
 
 last_same : (l : Letters) (s : State) (g : Goal) (whole : Bool) (k : Option Kind) (read : List ℕ) (f : Bool) → HeardAt l s (own s read) → EndsAs s g whole k → whole ≡ true → given_lexemes l k f ≡ given_by k (own s read) f
 last_same l (Token p) g whole k read f h e w = last_by_place l p read f k h (e w)
-last_same l Slash g whole k read f h e w = last_by_place l (behind_slash g) (47 ∷ []) f k (slash_hears l g) (e w)
+last_same l Slash g whole k read f h e w = last_by_place l (past_slash g) (47 ∷ []) f k (slash_hears l g) (e w)
 last_same l Start g whole k read f h e w = ap (λ (o : Option Kind). given_lexemes l o f) e ∙ sym (ap (λ (o : Option Kind). given_by o [] f) e)
 last_same l LineComment g whole k read f h e w = ap (λ (o : Option Kind). given_lexemes l o f) e ∙ sym (ap (λ (o : Option Kind). given_by o [] f) e)
 last_same l (BlockComment star) g whole k read f h e w = ap (λ (o : Option Kind). given_lexemes l o f) e ∙ sym (ap (λ (o : Option Kind). given_by o [] f) e)

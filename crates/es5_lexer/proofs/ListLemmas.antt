@@ -2,29 +2,29 @@
 use Rattle.std.proofs.Common.{◌≡◌, ℕ, ◌-◌, ◌≤◌, List, [], ◌∷◌, ◌++◌, get_or, length, take, drop, refl, sym, ap, ◌∙◌, arith, length-append, length-drop}
 use Rattle.es5_lexer.specs.Reading.{last}
 
-drop_front : (a b : List ℕ) → drop (length a) (a ++ b) ≡ b
-drop_front [] b = refl
-drop_front (c ∷ a) b = drop_front a b
+drop_prefix : (a b : List ℕ) → drop (length a) (a ++ b) ≡ b
+drop_prefix [] b = refl
+drop_prefix (c ∷ a) b = drop_prefix a b
 
-take_front : (a b : List ℕ) → take (length a) (a ++ b) ≡ a
-take_front [] b = refl
-take_front (c ∷ a) b = ap (λ (w : List ℕ). c ∷ w) (take_front a b)
+take_prefix : (a b : List ℕ) → take (length a) (a ++ b) ≡ a
+take_prefix [] b = refl
+take_prefix (c ∷ a) b = ap (λ (w : List ℕ). c ∷ w) (take_prefix a b)
 
-front_length : (a b : List ℕ) → length (a ++ b) - length b ≡ length a
-front_length a b = omega (arith, length-append a b)
+prefix_length : (a b : List ℕ) → length (a ++ b) - length b ≡ length a
+prefix_length a b = omega (arith, length-append a b)
 
 -- the last members of two lists
 pub last-append : (a b : List ℕ) → last (length b) (a ++ b) ≡ b
-last-append a b = ap (λ (n : ℕ). drop n (a ++ b)) (front_length a b) ∙ drop_front a b
+last-append a b = ap (λ (n : ℕ). drop n (a ++ b)) (prefix_length a b) ∙ drop_prefix a b
 
 pub last-is : (w a b : List ℕ) (n : ℕ) → w ≡ a ++ b → n ≡ length b → last n w ≡ b
 last-is w a b n e f = ap (λ (m : ℕ). last m w) f ∙ ap (λ (x : List ℕ). last (length b) x) e ∙ last-append a b
 
 -- the members before them
-pub front-is : (w a b : List ℕ) (n : ℕ) → w ≡ a ++ b → n ≡ length b → take (length w - n) w ≡ a
-front-is w a b n e f =
+pub prefix-is : (w a b : List ℕ) (n : ℕ) → w ≡ a ++ b → n ≡ length b → take (length w - n) w ≡ a
+prefix-is w a b n e f =
     ap (λ (m : ℕ). take (length w - m) w) f ∙ ap (λ (x : List ℕ). take (length x - length b) x) e
-    ∙ ap (λ (m : ℕ). take m (a ++ b)) (front_length a b) ∙ take_front a b
+    ∙ ap (λ (m : ℕ). take m (a ++ b)) (prefix_length a b) ∙ take_prefix a b
 
 -- a list as long as the one that it stands before
 pub last-drop : (w : List ℕ) (n : ℕ) → n ≤ length w → length (last n w) ≡ n

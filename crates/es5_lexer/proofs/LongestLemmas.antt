@@ -12,7 +12,7 @@ use Rattle.es5_lexer.specs.declared.longest.Longest.{Longest}
 use Rattle.es5_lexer.proofs.PlaceLemmas.{goes, comes, ends_here, ended_rest}
 use Rattle.es5_lexer.proofs.FirstLemmas.{first_goes, first_comes, empty_no_kind}
 
--- behind Dead nothing is found
+-- after Dead nothing is found
 dead_stays : (best : Option Longest) (u : List ℕ) → longest_from Dead best u ≡ best
 dead_stays best [] = refl
 dead_stays best (c ∷ u) = dead_stays best u
@@ -24,35 +24,35 @@ dead_is _ h = absurd cc
 pub dead_found : (s : Place) (best : Option Longest) (u : List ℕ) → is_dead s ≡ true → longest_from s best u ≡ best
 dead_found s best u h = ap (λ (x : Place). longest_from x best u) (dead_is s h) ∙ dead_stays best u
 
--- no text of the front completes a token at the place
+-- no text of the beginning completes a token at the place
 abbrev Nothing : Place → List ℕ → Type 0
 Nothing s u = (a b : List ℕ) (k : Kind) → u ≡ a ++ b → PlaceResidual s k a → ⊥
 
--- a text of the front completes a token, and none that is longer does
+-- a text of the beginning completes a token, and none that is longer does
 record Something (s : Place) (u : List ℕ) (x : Longest) : Type 0 where
-  pub front : List ℕ
+  pub prefix : List ℕ
   pub rest : List ℕ
-  pub splits : u ≡ front ++ rest
+  pub splits : u ≡ prefix ++ rest
   pub left : x.left ≡ length rest
-  pub completes : PlaceResidual s x.kind front
-  pub most : (a b : List ℕ) (k : Kind) → u ≡ a ++ b → PlaceResidual s k a → length a ≤ length front
+  pub completes : PlaceResidual s x.kind prefix
+  pub most : (a b : List ℕ) (k : Kind) → u ≡ a ++ b → PlaceResidual s k a → length a ≤ length prefix
 
 -- what a walk finds from a place on, where the best so far was another's
 data Outcome (s : Place) (prior : Option Longest) (u : List ℕ) (found : Option Longest) : Type 0 where
   same : found ≡ prior → Nothing s u → Outcome s prior u found
   better_one : (x : Longest) → found ≡ Some x → Something s u x → Outcome s prior u found
 
-behind : (s : Place) (c : ℕ) (u : List ℕ) (x : Longest) → Something (next s c) u x → Something s (c ∷ u) x
-behind s c u x h = record {
-  front = c ∷ h.front;
+after : (s : Place) (c : ℕ) (u : List ℕ) (x : Longest) → Something (next s c) u x → Something s (c ∷ u) x
+after s c u x h = record {
+  prefix = c ∷ h.prefix;
   rest = h.rest;
   splits = ap (λ (w : List ℕ). c ∷ w) h.splits;
   left = h.left;
-  completes = comes s x.kind c h.front h.completes;
+  completes = comes s x.kind c h.prefix h.completes;
   most = most_of;
 }
   where
-    most_of : (a b : List ℕ) (k : Kind) → c ∷ u ≡ a ++ b → PlaceResidual s k a → length a ≤ length (c ∷ h.front)
+    most_of : (a b : List ℕ) (k : Kind) → c ∷ u ≡ a ++ b → PlaceResidual s k a → length a ≤ length (c ∷ h.prefix)
     most_of [] b k e r = omega arith
     most_of (d ∷ a) b k e r =
         let head : c ≡ d = cc in let tail : u ≡ a ++ b = cc in
@@ -61,7 +61,7 @@ behind s c u x h = record {
 
 here : (s : Place) (c : ℕ) (u : List ℕ) (k : Kind) → ended s ≡ Some k → Nothing (next s c) u → Something s (c ∷ u) (record { kind = k; left = length (c ∷ u) })
 here s c u k e none = record {
-  front = [];
+  prefix = [];
   rest = c ∷ u;
   splits = refl;
   left = refl;
@@ -84,7 +84,7 @@ nowhere s c u e none (d ∷ a) b k f r =
 at_end : (s : Place) (prior : Option Longest) (o : Option Kind) → ended s ≡ o → Outcome s prior [] (better o [] prior)
 at_end s prior (Some k) e =
     better_one (record { kind = k; left = 0 }) refl (record {
-      front = [];
+      prefix = [];
       rest = [];
       splits = refl;
       left = refl;
@@ -102,7 +102,7 @@ at_end s prior None e = same refl (λ a b k f r. no_rest a b k f r)
     no_rest (c ∷ a) b k f r = absurd cc
 
 step : (s : Place) (prior : Option Longest) (c : ℕ) (u : List ℕ) (o : Option Kind) (found : Option Longest) → ended s ≡ o → Outcome (next s c) (better o (c ∷ u) prior) u found → Outcome s prior (c ∷ u) found
-step s prior c u o found e (better_one x f h) = better_one x f (behind s c u x h)
+step s prior c u o found e (better_one x f h) = better_one x f (after s c u x h)
 step s prior c u (Some k) found e (same f none) =
     better_one (record { kind = k; left = length (c ∷ u) }) f (here s c u k e none)
 step s prior c u None found e (same f none) = same f (nowhere s c u e none)
@@ -112,11 +112,11 @@ walk s prior [] = at_end s prior (ended s) refl
 walk s prior (c ∷ u) =
     step s prior c u (ended s) _ refl (walk (next s c) (better (ended s) (c ∷ u) prior) u)
 
--- no token of any kind stands at the front
+-- no token of any kind stands at the beginning
 abbrev pub NoToken : Goal → List ℕ → Type 0
 NoToken g w = (u rest : List ℕ) (k : Kind) → w ≡ u ++ rest → IsKind g k u → ⊥
 
--- the longest token at the front
+-- the longest token at the beginning
 pub record IsLongest (g : Goal) (w : List ℕ) (x : Longest) : Type 0 where
   pub first : ℕ
   pub others : List ℕ
@@ -124,7 +124,7 @@ pub record IsLongest (g : Goal) (w : List ℕ) (x : Longest) : Type 0 where
   pub splits : w ≡ first ∷ (others ++ rest)
   pub left : x.left ≡ length rest
   pub is : IsKind g x.kind (first ∷ others)
-  pub most : (u behind : List ℕ) (k : Kind) → w ≡ u ++ behind → IsKind g k u → length u ≤ suc (length others)
+  pub most : (u after : List ℕ) (k : Kind) → w ≡ u ++ after → IsKind g k u → length u ≤ suc (length others)
 
 pub data Finds (g : Goal) (w : List ℕ) (found : Option Longest) : Type 0 where
   nothing : found ≡ None → NoToken g w → Finds g w found
@@ -140,19 +140,19 @@ finds_from g c u found (same e none) = nothing e none_of
         none a rest k tail (first_goes g k c a (subst (λ (x : ℕ). IsKind g k (x ∷ a)) (sym head) h))
 finds_from g c u found (better_one x e h) = longest x e (record {
   first = c;
-  others = h.front;
+  others = h.prefix;
   rest = h.rest;
   splits = ap (λ (w : List ℕ). c ∷ w) h.splits;
   left = h.left;
-  is = first_comes g x.kind c h.front h.completes;
+  is = first_comes g x.kind c h.prefix h.completes;
   most = most_of;
 })
   where
-    most_of : (a behind : List ℕ) (k : Kind) → c ∷ u ≡ a ++ behind → IsKind g k a → length a ≤ suc (length h.front)
-    most_of [] behind k f r = omega arith
-    most_of (d ∷ a) behind k f r =
-        let head : c ≡ d = cc in let tail : u ≡ a ++ behind = cc in
-        let fewer = h.most a behind k tail (first_goes g k c a (subst (λ (x : ℕ). IsKind g k (x ∷ a)) (sym head) r)) in
+    most_of : (a after : List ℕ) (k : Kind) → c ∷ u ≡ a ++ after → IsKind g k a → length a ≤ suc (length h.prefix)
+    most_of [] after k f r = omega arith
+    most_of (d ∷ a) after k f r =
+        let head : c ≡ d = cc in let tail : u ≡ a ++ after = cc in
+        let fewer = h.most a after k tail (first_goes g k c a (subst (λ (x : ℕ). IsKind g k (x ∷ a)) (sym head) r)) in
         omega arith
 
 pub finds : (g : Goal) (w : List ℕ) → Finds g w (longest_token g w)

@@ -1,7 +1,7 @@
--- The next token, from the walk over trivia and what stands behind it.
+-- The next token, from the walk over trivia and what stands after it.
 use Rattle.std.proofs.Common.{◌≡◌, ℕ, ◌-◌, ◌≤◌, Bool, false, Some, None, List, [], ◌∷◌, ◌++◌, length, take, drop, refl, sym, ap, subst, ◌∙◌, append_assoc, length-append, arith}
 use Rattle.std.proofs.lemmas.List.{take-append-drop}
-use Rattle.es5_lexer.specs.Texts.{chars, read_by, Item, blank, line, block, token, text, Fit, has_token, ended_by, ended_in, ended_behind, lexemes, Lexes, IsNextToken}
+use Rattle.es5_lexer.specs.Texts.{chars, read_by, Item, blank, line, block, token, text, Fit, has_token, ended_by, ended_in, ended_after, lexemes, Lexes, IsNextToken}
 use Rattle.es5_lexer.specs.Reading.{last, leading_trivium, Passes, token_at}
 use Rattle.es5_lexer.specs.declared.tokens.Goal.{Goal}
 use Rattle.es5_lexer.specs.declared.tokens.Token.{Token}
@@ -21,15 +21,15 @@ found_next g w place v b t n p e =
     let s = token_at-some g v t n e in
     let part = passes_part false (drop place w) b v p in
     let k = passes_items g false (drop place w) b v p in
-    let before : List ℕ = take place w ++ (part.front ++ s.front) in
-    let whole : w ≡ before ++ s.rest = sym (take-append-drop place w) ∙ ap (λ (x : List ℕ). take place w ++ x) (part.splits ∙ ap (λ (x : List ℕ). part.front ++ x) s.splits ∙ sym (append_assoc part.front s.front s.rest)) ∙ sym (append_assoc (take place w) (part.front ++ s.front) s.rest) in
+    let before : List ℕ = take place w ++ (part.prefix ++ s.prefix) in
+    let whole : w ≡ before ++ s.rest = sym (take-append-drop place w) ∙ ap (λ (x : List ℕ). take place w ++ x) (part.splits ∙ ap (λ (x : List ℕ). part.prefix ++ x) s.splits ∙ sym (append_assoc part.prefix s.prefix s.rest)) ∙ sym (append_assoc (take place w) (part.prefix ++ s.prefix) s.rest) in
     let rest : last n w ≡ s.rest = last-is w before s.rest n whole s.left in
     record {
       few = omega (arith, ap length whole, length-append before s.rest, s.left);
       is = subst (λ (r : List ℕ). IsNextToken g (drop place w) (record { token = t; newline = b }) r) (sym rest) (record {
         trivia = k.items;
         only = k.only;
-        token = s.front;
+        token = s.prefix;
         spells = k.spells ∙ ap (λ (x : List ℕ). text k.items (read_by g x)) s.splits;
         fits = subst (λ (x : List ℕ). Fit k.items (read_by g x) g) s.splits k.fits;
         stands = s.stands;
@@ -38,16 +38,16 @@ found_next g w place v b t n p e =
     }
 
 -- the walk over the trivia of a next token
-pub next_passes : (g : Goal) (u : List ℕ) (x : Lexeme) (rest : List ℕ) (h : IsNextToken g u x rest) → Passes false u (ended_behind false h.trivia) (h.token ++ rest)
+pub next_passes : (g : Goal) (u : List ℕ) (x : Lexeme) (rest : List ℕ) (h : IsNextToken g u x rest) → Passes false u (ended_after false h.trivia) (h.token ++ rest)
 next_passes g u x rest h =
     let p = items_pass h.trivia (read_by g (h.token ++ rest)) g false h.only h.fits in
-    subst (λ (w : List ℕ). Passes false w (ended_behind false h.trivia) (h.token ++ rest)) (sym (ap chars h.spells) ∙ chars-read_by g u)
-    (subst (λ (w : List ℕ). Passes false (chars (text h.trivia (read_by g (h.token ++ rest)))) (ended_behind false h.trivia) w) (chars-read_by g (h.token ++ rest)) p)
+    subst (λ (w : List ℕ). Passes false w (ended_after false h.trivia) (h.token ++ rest)) (sym (ap chars h.spells) ∙ chars-read_by g u)
+    (subst (λ (w : List ℕ). Passes false (chars (text h.trivia (read_by g (h.token ++ rest)))) (ended_after false h.trivia) w) (chars-read_by g (h.token ++ rest)) p)
 
 pub none_next : (g : Goal) (u v : List ℕ) (b : Bool) → Passes false u b v → leading_trivium v ≡ None → token_at g v ≡ None → (x : Lexeme) (rest : List ℕ) → IsNextToken g u x rest → ⊥
 none_next g u v b p e f x rest h =
     let q = next_passes g u x rest h in
-    let same = one_pass false u b (ended_behind false h.trivia) v (h.token ++ rest) p q e (stands-no_trivium g x.token h.token rest h.stands) in
+    let same = one_pass false u b (ended_after false h.trivia) v (h.token ++ rest) p q e (stands-no_trivium g x.token h.token rest h.stands) in
     let found = stands-token_at g x.token h.token rest h.stands in
     let nothing : token_at g (h.token ++ rest) ≡ None = ap (token_at g) (sym same.1) ∙ f in
     absurd cc
@@ -83,8 +83,8 @@ only_trivia g u v b p e = record {
       };
   comes = λ h.
       let q = items_pass h.items [] g false (no_tokens h.items false (sym h.gives)) h.fits in
-      let r = subst (λ (w : List ℕ). Passes false w (ended_behind false h.items) []) (sym (ap chars h.spells) ∙ chars-read_by g u) q in
-      (one_pass false u b (ended_behind false h.items) v [] p r e refl).1;
+      let r = subst (λ (w : List ℕ). Passes false w (ended_after false h.items) []) (sym (ap chars h.spells) ∙ chars-read_by g u) q in
+      (one_pass false u b (ended_after false h.items) v [] p r e refl).1;
 }
 
 -- the same walk, from a text by another name

@@ -7,7 +7,7 @@ use Rattle.es5_lexer.specs.Tokens.{may_precede, Stands}
 use Rattle.es5_lexer.specs.Texts.{Mark, mark, chars, asked, Item, blank, line, block, token, text, Fit, ended_by}
 use Rattle.es5_lexer.specs.Cuts.{Cut, cut, cuts, CutsFrom}
 use Rattle.es5_lexer.specs.Reading.{trivium_with, comment, leading_trivium, token_of}
-use Rattle.es5_lexer.specs.Places.{mark as punct_of, behind_slash, behind_mark, first}
+use Rattle.es5_lexer.specs.Places.{mark as punct_of, past_slash, after_mark, first}
 use Rattle.es5_lexer.specs.PlaceResiduals.{PlaceResidual}
 use Rattle.es5_lexer.specs.Residuals.{TokenFrom, LineFrom, BlockFrom}
 use Rattle.es5_lexer.specs.declared.tokens.Goal.{Goal}
@@ -32,7 +32,7 @@ pub data Opened (f : Bool) (c : ℕ) (w : List Mark) (end : Goal) (tokens : List
   a_block : (d : Mark) (v : List Mark) → c ≡ 47 → w ≡ d ∷ v → d.character ≡ 42 → BlockFrom false f v end tokens → Opened f c w end tokens
   a_token : TokenFrom (first (asked w end) c) (c ∷ []) f w end tokens → Opened f c w end tokens
 
--- a token at the front
+-- a token at the beginning
 token_opened : (f : Bool) (c : ℕ) (t : AToken) (q rest : List Mark) (end : Goal) (others tokens : List Cut) → Stands (asked (q ++ rest) end) t (c ∷ chars q) (chars rest) → CutsFrom false rest end others → tokens ≡ cut t f rest ∷ others → TokenFrom (first (asked (q ++ rest) end) c) (c ∷ []) f (q ++ rest) end tokens
 token_opened f c t q rest end others tokens s l e =
     let g : Goal = asked (q ++ rest) end in
@@ -169,5 +169,5 @@ slash_no_blank c e b =
 pub first_same : (g h : Goal) (c : ℕ) → (c == 47) ≡ false → first g c ≡ first h c
 first_same g h c e =
     ap (λ (x : Place). if is_start c then Name else if c == 92 then Escape FirstChar EscapeMark else if c == 48 then Number Zero else if is_nonzero c then Number Digit else if c == 34 then Text Double Chars else if c == 39 then Text Single Chars else x)
-    (else_in (λ (x : Place). x ≡ (if c == 47 then behind_slash h else behind_mark (punct_of c))) (c == 47) _ _ e
-    (else_in (λ (x : Place). behind_mark (punct_of c) ≡ x) (c == 47) _ _ e refl))
+    (else_in (λ (x : Place). x ≡ (if c == 47 then past_slash h else after_mark (punct_of c))) (c == 47) _ _ e
+    (else_in (λ (x : Place). after_mark (punct_of c) ≡ x) (c == 47) _ _ e refl))

@@ -1,6 +1,6 @@
 -- A walk over trivia: each item is passed, and what is passed are items.
 use Rattle.std.proofs.Common.{◌≡◌, ℕ, ◌<◌, Bool, true, false, if◌then◌else◌, Some, None, List, [], ◌∷◌, ◌++◌, length, refl, sym, ap, subst, ◌∙◌, append_assoc, length-append, arith}
-use Rattle.es5_lexer.specs.Texts.{Mark, chars, read_by, Item, blank, line, block, token, text, Fit, has_token, ended_behind}
+use Rattle.es5_lexer.specs.Texts.{Mark, chars, read_by, Item, blank, line, block, token, text, Fit, has_token, ended_after}
 use Rattle.es5_lexer.specs.Reading.{last, leading_trivium, Passes, none, one}
 use Rattle.es5_lexer.specs.declared.tokens.Goal.{Goal}
 use Rattle.es5_lexer.specs.declared.tokens.Goal.TheVariants.{Div}
@@ -18,23 +18,23 @@ passes_more _ _ _ _ t (one a u s b v f p) e = one a u s _ _ f (passes_more _ _ b
 
 -- what is left is the last part of the text
 pub record Part (u v : List ℕ) : Type 0 where
-  pub front : List ℕ
-  pub splits : u ≡ front ++ v
+  pub prefix : List ℕ
+  pub splits : u ≡ prefix ++ v
 
 pub trivium_less : (u : List ℕ) (t : Trivium) → leading_trivium u ≡ Some t → t.left < length u
 trivium_less u t e =
     let i = trivium_is Div u t e in
-    omega (arith, ap length i.splits, length-append i.front i.rest, i.left, i.nonempty)
+    omega (arith, ap length i.splits, length-append i.prefix i.rest, i.left, i.nonempty)
 
 pub passes_part : (a : Bool) (u : List ℕ) (b : Bool) (v : List ℕ) → Passes a u b v → Part u v
-passes_part _ _ _ _ (none a u) = record { front = []; splits = refl }
+passes_part _ _ _ _ (none a u) = record { prefix = []; splits = refl }
 passes_part _ _ _ _ (one a u t b v e p) =
     let i = trivium_is Div u t e in
     let r = passes_part _ _ b v p in
-    let rest : last t.left u ≡ i.rest = last-is u i.front i.rest t.left i.splits i.left in
+    let rest : last t.left u ≡ i.rest = last-is u i.prefix i.rest t.left i.splits i.left in
     record {
-      front = i.front ++ r.front;
-      splits = i.splits ∙ ap (λ (w : List ℕ). i.front ++ w) (sym rest ∙ r.splits) ∙ sym (append_assoc i.front r.front v);
+      prefix = i.prefix ++ r.prefix;
+      splits = i.splits ∙ ap (λ (w : List ℕ). i.prefix ++ w) (sym rest ∙ r.splits) ∙ sym (append_assoc i.prefix r.prefix v);
     }
 
 -- one walk goes to where no trivia begin
@@ -52,7 +52,7 @@ pub record AreTrivia (g : Goal) (a : Bool) (u : List ℕ) (b : Bool) (v : List �
   pub only : has_token items ≡ false
   pub spells : read_by g u ≡ text items (read_by g v)
   pub fits : Fit items (read_by g v) g
-  pub flag : ended_behind a items ≡ b
+  pub flag : ended_after a items ≡ b
 
 -- an item before items
 first_has : (i : Item) (items : List Item) → has_token (i ∷ []) ≡ false → has_token (i ∷ items) ≡ has_token items
@@ -73,7 +73,7 @@ first_fits (line a b q) items rest g o h k = (h.0, h.1, k)
 first_fits (block a b q) items rest g o h k = (h.0, k)
 first_fits (token t a q) items rest g o h k = absurd cc
 
-first_flag : (i : Item) (items : List Item) (a : Bool) → ended_behind a (i ∷ items) ≡ ended_behind (ended_behind a (i ∷ [])) items
+first_flag : (i : Item) (items : List Item) (a : Bool) → ended_after a (i ∷ items) ≡ ended_after (ended_after a (i ∷ [])) items
 first_flag (blank m) items a = refl
 first_flag (line b c q) items a = refl
 first_flag (block b c q) items a = refl
@@ -83,15 +83,15 @@ pub passes_items : (g : Goal) (a : Bool) (u : List ℕ) (b : Bool) (v : List ℕ
 passes_items g _ _ _ _ (none a u) = record { items = []; only = refl; spells = refl; fits = tt; flag = refl }
 passes_items g _ _ _ _ (one a u t b v e p) =
     let i = trivium_is g u t e in
-    let rest : last t.left u ≡ i.rest = last-is u i.front i.rest t.left i.splits i.left in
+    let rest : last t.left u ≡ i.rest = last-is u i.prefix i.rest t.left i.splits i.left in
     let k = passes_items g _ _ b v p in
-    let behind : read_by g i.rest ≡ text k.items (read_by g v) = ap (read_by g) (sym rest) ∙ k.spells in
+    let after : read_by g i.rest ≡ text k.items (read_by g v) = ap (read_by g) (sym rest) ∙ k.spells in
     record {
       items = i.item ∷ k.items;
       only = first_has i.item k.items i.only ∙ k.only;
-      spells = i.spells ∙ ap (text (i.item ∷ [])) behind ∙ first_text i.item k.items (read_by g v);
-      fits = first_fits i.item k.items (read_by g v) g i.only (subst (λ (w : List Mark). Fit (i.item ∷ []) w g) behind i.fits) k.fits;
-      flag = first_flag i.item k.items a ∙ ap (λ (x : Bool). ended_behind x k.items) (i.flag a) ∙ k.flag;
+      spells = i.spells ∙ ap (text (i.item ∷ [])) after ∙ first_text i.item k.items (read_by g v);
+      fits = first_fits i.item k.items (read_by g v) g i.only (subst (λ (w : List Mark). Fit (i.item ∷ []) w g) after i.fits) k.fits;
+      flag = first_flag i.item k.items a ∙ ap (λ (x : Bool). ended_after x k.items) (i.flag a) ∙ k.flag;
     }
 
 -- and items are passed
@@ -108,14 +108,14 @@ fits_first (line a b q) items rest g o h = ((h.0, h.1, tt), h.2)
 fits_first (block a b q) items rest g o h = ((h.0, tt), h.1)
 fits_first (token t a q) items rest g o h = absurd cc
 
--- the text behind an item is its last part
+-- the text after an item is its last part
 item_part : (i : Item) (rest : List Mark) → Part (chars (text (i ∷ []) rest)) (chars rest)
-item_part (blank m) rest = record { front = m.character ∷ []; splits = refl }
-item_part (line a b q) rest = record { front = a.character ∷ b.character ∷ chars q; splits = ap (λ (w : List ℕ). a.character ∷ b.character ∷ w) (chars_both q rest) }
-item_part (block a b q) rest = record { front = a.character ∷ b.character ∷ chars q; splits = ap (λ (w : List ℕ). a.character ∷ b.character ∷ w) (chars_both q rest) }
-item_part (token t a q) rest = record { front = a.character ∷ chars q; splits = ap (λ (w : List ℕ). a.character ∷ w) (chars_both q rest) }
+item_part (blank m) rest = record { prefix = m.character ∷ []; splits = refl }
+item_part (line a b q) rest = record { prefix = a.character ∷ b.character ∷ chars q; splits = ap (λ (w : List ℕ). a.character ∷ b.character ∷ w) (chars_both q rest) }
+item_part (block a b q) rest = record { prefix = a.character ∷ b.character ∷ chars q; splits = ap (λ (w : List ℕ). a.character ∷ b.character ∷ w) (chars_both q rest) }
+item_part (token t a q) rest = record { prefix = a.character ∷ chars q; splits = ap (λ (w : List ℕ). a.character ∷ w) (chars_both q rest) }
 
-pub items_pass : (items : List Item) (rest : List Mark) (g : Goal) (a : Bool) → has_token items ≡ false → Fit items rest g → Passes a (chars (text items rest)) (ended_behind a items) (chars rest)
+pub items_pass : (items : List Item) (rest : List Mark) (g : Goal) (a : Bool) → has_token items ≡ false → Fit items rest g → Passes a (chars (text items rest)) (ended_after a items) (chars rest)
 items_pass [] rest g a o h = none a (chars rest)
 items_pass (i ∷ items) rest g a o h =
     let s = only_first i items o in
@@ -123,12 +123,12 @@ items_pass (i ∷ items) rest g a o h =
     let found = item_found i (text items rest) g s.0 f.0 in
     let t : Trivium = record { ends_line = item_ends i; left = length (chars (text items rest)) } in
     let part = item_part i (text items rest) in
-    let behind : last t.left (chars (text (i ∷ []) (text items rest))) ≡ chars (text items rest) = last-is _ part.front _ t.left part.splits refl in
+    let after : last t.left (chars (text (i ∷ []) (text items rest))) ≡ chars (text items rest) = last-is _ part.prefix _ t.left part.splits refl in
     let p = items_pass items rest g (if item_ends i then true else a) s.1 f.1 in
-    subst (λ (w : List Mark). Passes a (chars w) (ended_behind a (i ∷ items)) (chars rest)) (first_text i items rest)
+    subst (λ (w : List Mark). Passes a (chars w) (ended_after a (i ∷ items)) (chars rest)) (first_text i items rest)
     (one a (chars (text (i ∷ []) (text items rest))) t _ (chars rest) found
     (subst (λ (b : Bool). Passes (if item_ends i then true else a) (last t.left (chars (text (i ∷ []) (text items rest)))) b (chars rest)) (sym (item_flag i items a s.0))
-    (subst (λ (w : List ℕ). Passes (if item_ends i then true else a) w (ended_behind (if item_ends i then true else a) items) (chars rest)) (sym behind) p)))
+    (subst (λ (w : List ℕ). Passes (if item_ends i then true else a) w (ended_after (if item_ends i then true else a) items) (chars rest)) (sym after) p)))
 
 -- the same walk, by other names
 pub passes_next : (u : List ℕ) (b : Bool) (v : List ℕ) (t : Trivium) (c : Bool) (w : List ℕ) → Passes false u b v → leading_trivium v ≡ Some t → c ≡ (if t.ends_line then true else b) → w ≡ last t.left v → Passes false u c w

@@ -1,12 +1,12 @@
--- A character in front of what may come at a place is a step to the place behind it, and back.
+-- A character before what may come at a place is a step to the place after it, and back.
 use Rattle.std.proofs.Common.{◌≡◌, ℕ, Bool, true, false, ◌&&◌, ◌||◌, not, ◌==◌, if◌then◌else◌, Option, Some, None, List, [], ◌∷◌, ◌⊎◌, inl, inr, refl, sym, ap, subst, ◌∙◌, arith}
 use Rattle.std.proofs.lemmas.Bool.Decides.{nat_tests}
 use Rattle.es5_lexer.specs.Characters.{is_part, is_line_end, is_digit, is_hex, is_octal, is_escape_of, is_part_class, is_line_end_class}
 use Rattle.es5_lexer.specs.Names.{AreParts, AreEscaped}
 use Rattle.es5_lexer.specs.Numbers.{is_exponent_mark, is_hex_mark, is_sign}
-use Rattle.es5_lexer.specs.Strings.{quote_of, IsStringRest, IsBehindEscape}
+use Rattle.es5_lexer.specs.Strings.{quote_of, IsStringRest, IsAfterEscape}
 use Rattle.es5_lexer.specs.Patterns.{IsBody, IsBodyRest, IsClassRest}
-use Rattle.es5_lexer.specs.Places.{set_of, behind, is_dot, longer, next, next_by, next_in_parts, next_in_escape, next_in_number, next_in_exponent, next_in_chars, behind_text_escape, next_in_text, next_in_body, next_in_pattern, ended}
+use Rattle.es5_lexer.specs.Places.{set_of, after, is_dot, longer, next, next_by, next_in_parts, next_in_escape, next_in_number, next_in_exponent, next_in_chars, after_text_escape, next_in_text, next_in_body, next_in_pattern, ended}
 use Rattle.es5_lexer.specs.PlaceResiduals.{kind_in, EscapeResidual, MarkResidual, NumberResidual, TextResidual, PatternResidual, PlaceResidual}
 use Rattle.es5_lexer.specs.declared.tokens.Punct.{Punct}
 use Rattle.es5_lexer.specs.declared.tokens.Punct.TheVariants.{Dot}
@@ -36,19 +36,19 @@ At k u s = PlaceResidual s k u
 
 -- names
 
-behind_host : (host : Host) (k : Kind) (u : List ℕ) → k ≡ kind_in host → AreParts u → PlaceResidual (behind host) k u
-behind_host FirstChar k u e p = (e, p)
-behind_host LaterChar k u e p = (e, p)
-behind_host FlagChar k u e p = (e, p)
+after_host : (host : Host) (k : Kind) (u : List ℕ) → k ≡ kind_in host → AreParts u → PlaceResidual (after host) k u
+after_host FirstChar k u e p = (e, p)
+after_host LaterChar k u e p = (e, p)
+after_host FlagChar k u e p = (e, p)
 
-host_behind : (host : Host) (k : Kind) (u : List ℕ) → PlaceResidual (behind host) k u → (k ≡ kind_in host) × AreParts u
-host_behind FirstChar k u h = (h.0, h.1)
-host_behind LaterChar k u h = (h.0, h.1)
-host_behind FlagChar k u h = (h.0, h.1)
+host_after : (host : Host) (k : Kind) (u : List ℕ) → PlaceResidual (after host) k u → (k ≡ kind_in host) × AreParts u
+host_after FirstChar k u h = (h.0, h.1)
+host_after LaterChar k u h = (h.0, h.1)
+host_after FlagChar k u h = (h.0, h.1)
 
 parts_go : (host : Host) (k : Kind) (c : ℕ) (u : List ℕ) → is_part ≡ set_of host → k ≡ kind_in host → AreParts (c ∷ u) → PlaceResidual (next_in_parts host c) k u
 parts_go host k c u same e (inl (h, p)) =
-    then_in (At k u) (is_part c) _ _ h (behind_host host k u e p)
+    then_in (At k u) (is_part c) _ _ h (after_host host k u e p)
 parts_go host k c u same e (inr (h, p)) =
     else_in (At k u) (is_part c) _ _ (ap is_part h ∙ ap is_part_class backslash)
     (then_in (At k u) (c == 92) _ _ (test_same c 92 h) (e, subst (λ (f : ℕ → Bool). AreEscaped f u) same p))
@@ -56,7 +56,7 @@ parts_go host k c u same e (inr (h, p)) =
 parts_come : (host : Host) (k : Kind) (c : ℕ) (u : List ℕ) → is_part ≡ set_of host → PlaceResidual (next_in_parts host c) k u → (k ≡ kind_in host) × AreParts (c ∷ u)
 parts_come host k c u same h =
     elim (split (At k u) (is_part c) _ _ h) [
-      | inl (t, r) ↦ let b = host_behind host k u r in (b.0, inl (t, b.1))
+      | inl (t, r) ↦ let b = host_after host k u r in (b.0, inl (t, b.1))
       | inr (_, r) ↦ elim (split (At k u) (c == 92) _ _ r) [
         | inl (t, (e, p)) ↦ (e, inr (is_same c 92 t, subst (λ (f : ℕ → Bool). AreEscaped f u) (sym same) p))
         | inr (_, z) ↦ absurd z
@@ -98,7 +98,7 @@ escape_goes host EscapeLetter k c u e h = then_in (At k u) (is_hex c) _ _ (first
 escape_goes host (OneDigit a) k c u e h = then_in (At k u) (is_hex c) _ _ (second_hex (set_of host) a c u h) (e, h)
 escape_goes host (TwoDigits a b) k c u e h = then_in (At k u) (is_hex c) _ _ (third_hex (set_of host) a b c u h) (e, h)
 escape_goes host (ThreeDigits a b d) k c u e h =
-    then_in (At k u) (is_escape_of (set_of host) a b d c) _ _ h.1 (behind_host host k u e h.2)
+    then_in (At k u) (is_escape_of (set_of host) a b d c) _ _ h.1 (after_host host k u e h.2)
 
 escape_comes : (host : Host) (seen : Seen) (k : Kind) (c : ℕ) (u : List ℕ) → PlaceResidual (next_in_escape host seen c) k u → (k ≡ kind_in host) × EscapeResidual host seen (c ∷ u)
 escape_comes host EscapeMark k c u h =
@@ -114,7 +114,7 @@ escape_comes host (TwoDigits a b) k c u h =
     elim (split (At k u) (is_hex c) _ _ h) [ inl (t, (e, r)) ↦ (e, r) | inr (_, z) ↦ absurd z ]
 escape_comes host (ThreeDigits a b d) k c u h =
     elim (split (At k u) (is_escape_of (set_of host) a b d c) _ _ h) [
-      | inl (t, r) ↦ let b = host_behind host k u r in (b.0, (refl, t, b.1))
+      | inl (t, r) ↦ let b = host_after host k u r in (b.0, (refl, t, b.1))
       | inr (_, z) ↦ absurd z
     ]
 
@@ -266,19 +266,19 @@ chars_come q k c u h =
       ]
     ]
 
-text_escape_goes : (q : Quote) (k : Kind) (c : ℕ) (u : List ℕ) → k ≡ AText → IsBehindEscape q (c ∷ u) → PlaceResidual (behind_text_escape q c) k u
-text_escape_goes q k c u e (inl (s, h)) = subst (λ (x : ℕ). PlaceResidual (behind_text_escape q x) k u) (sym s) (e, h)
+text_escape_goes : (q : Quote) (k : Kind) (c : ℕ) (u : List ℕ) → k ≡ AText → IsAfterEscape q (c ∷ u) → PlaceResidual (after_text_escape q c) k u
+text_escape_goes q k c u e (inl (s, h)) = subst (λ (x : ℕ). PlaceResidual (after_text_escape q x) k u) (sym s) (e, h)
 text_escape_goes q k c u e (inr (inl (s, h))) =
-    subst (λ (x : ℕ). PlaceResidual (behind_text_escape q x) k u) (sym s) (e, h)
+    subst (λ (x : ℕ). PlaceResidual (after_text_escape q x) k u) (sym s) (e, h)
 text_escape_goes q k c u e (inr (inr (inl (s, h)))) =
-    subst (λ (x : ℕ). PlaceResidual (behind_text_escape q x) k u) (sym s) (e, h)
+    subst (λ (x : ℕ). PlaceResidual (after_text_escape q x) k u) (sym s) (e, h)
 text_escape_goes q k c u e (inr (inr (inr (p, h)))) =
     let a = not_or (c == 120) ((c == 117) || (c == 13)) p in
     let b = not_or (c == 117) (c == 13) a.1 in
     else_in (At k u) (c == 120) _ _ a.0
     (else_in (At k u) (c == 117) _ _ b.0 (else_in (At k u) (c == 13) _ _ (not_true (c == 13) b.1) (e, h)))
 
-text_escape_comes : (q : Quote) (k : Kind) (c : ℕ) (u : List ℕ) → PlaceResidual (behind_text_escape q c) k u → (k ≡ AText) × IsBehindEscape q (c ∷ u)
+text_escape_comes : (q : Quote) (k : Kind) (c : ℕ) (u : List ℕ) → PlaceResidual (after_text_escape q c) k u → (k ≡ AText) × IsAfterEscape q (c ∷ u)
 text_escape_comes q k c u h =
     elim (split (At k u) (c == 120) _ _ h) [
       | inl (t, (e, r)) ↦ (e, inl (is_same c 120 t, r))

@@ -7,7 +7,7 @@ use Rattle.es5_lexer.specs.Tokens.{may_precede}
 use Rattle.es5_lexer.specs.Texts.{Mark, mark, chars, Item, blank, line, block, token, text}
 use Rattle.es5_lexer.specs.Cuts.{Cut, cut, cuts, CutsFrom, cuts_at}
 use Rattle.es5_lexer.specs.Suits.{is_div}
-use Rattle.es5_lexer.specs.Places.{first, behind_slash, ended}
+use Rattle.es5_lexer.specs.Places.{first, past_slash, ended}
 use Rattle.es5_lexer.specs.PlaceResiduals.{PlaceResidual}
 use Rattle.es5_lexer.specs.Reading.{token_of}
 use Rattle.es5_lexer.specs.Residuals.{onto, TokenFrom, LineFrom, BlockFrom, given_by, Steps, Ends}
@@ -27,10 +27,10 @@ use Rattle.es5_lexer.proofs.TriviaLemmas.{chars-append}
 use Rattle.es5_lexer.proofs.OpenLemmas.{Opened, a_blank, a_line, a_block, a_token, opened, line_first, block_first, token_first, slash_no_blank}
 use Rattle.es5_lexer.proofs.StepLemmas.{quiet}
 
-pub first_slash : (g : Goal) → first g 47 ≡ behind_slash g
-first_slash g = else_in (λ (x : Place). x ≡ behind_slash g) (is_start 47) _ _ (ap is_start_class slash) refl
+pub first_slash : (g : Goal) → first g 47 ≡ past_slash g
+first_slash g = else_in (λ (x : Place). x ≡ past_slash g) (is_start 47) _ _ (ap is_start_class slash) refl
 
--- behind a slash that begins a token stands none that makes it begin a comment
+-- after a slash that begins a token stands none that makes it begin a comment
 
 record NoComment (c : ℕ) : Type 0 where
   pub line : (c == 47) ≡ false
@@ -62,7 +62,7 @@ pattern_no : (k : Kind) (c : ℕ) (u r v : List ℕ) → c ∷ v ≡ u ++ r → 
 pattern_no k c [] r v e h = absurd h.1
 pattern_no k c (d ∷ u) r v e h = let head : d ≡ c = cc in subst NoComment head (body_no d u h.1)
 
-slash_no : (g : Goal) (f : Bool) (c : ℕ) (h : Goal) (w : List Mark) (end : Goal) (tokens : List Cut) → TokenFrom (behind_slash g) (47 ∷ []) f (mark h c ∷ w) end tokens → NoComment c
+slash_no : (g : Goal) (f : Bool) (c : ℕ) (h : Goal) (w : List Mark) (end : Goal) (tokens : List Cut) → TokenFrom (past_slash g) (47 ∷ []) f (mark h c ∷ w) end tokens → NoComment c
 slash_no g f c h w end tokens t = by_goal (split (λ (x : Place). PlaceResidual x t.kind (chars t.before)) (is_div g) _ _ t.completes)
   where
     spells : c ∷ chars w ≡ chars t.before ++ chars t.after
@@ -108,7 +108,7 @@ comment_block_step read f g c e =
 
 -- else the slash begins a token
 
-pub token_begins : (f : Bool) (g : Goal) (c : ℕ) (w : List Mark) (end : Goal) (tokens : List Cut) → (c == 47) ≡ false → (c == 42) ≡ false → Opened f 47 (mark g c ∷ w) end tokens → TokenFrom (behind_slash g) (47 ∷ []) f (mark g c ∷ w) end tokens
+pub token_begins : (f : Bool) (g : Goal) (c : ℕ) (w : List Mark) (end : Goal) (tokens : List Cut) → (c == 47) ≡ false → (c == 42) ≡ false → Opened f 47 (mark g c ∷ w) end tokens → TokenFrom (past_slash g) (47 ∷ []) f (mark g c ∷ w) end tokens
 token_begins f g c w end tokens l b (a_blank x _) = absurd (slash_no_blank 47 refl x)
 token_begins f g c w end tokens l b (a_line d v _ spells s _) =
     let head : mark g c ≡ d = cc in
@@ -119,7 +119,7 @@ token_begins f g c w end tokens l b (a_block d v _ spells s _) =
 token_begins f g c w end tokens l b (a_token t) =
     subst (λ (x : Place). TokenFrom x (47 ∷ []) f (mark g c ∷ w) end tokens) (first_slash g) t
 
-pub slash_token_step : (read : List ℕ) (f : Bool) (g : Goal) (c : ℕ) (given : Option Kind) (t : State) (flag : Bool) → (c == 47) ≡ false → (c == 42) ≡ false → Steps (Token (behind_slash g)) (47 ∷ []) f g c given t flag → Steps Slash read f g c given t flag
+pub slash_token_step : (read : List ℕ) (f : Bool) (g : Goal) (c : ℕ) (given : Option Kind) (t : State) (flag : Bool) → (c == 47) ≡ false → (c == 42) ≡ false → Steps (Token (past_slash g)) (47 ∷ []) f g c given t flag → Steps Slash read f g c given t flag
 slash_token_step read f g c given t flag l b h = record {
   goes = λ w end tokens x. h.goes w end tokens (token_begins f g c w end tokens l b (opened f x.0 47 (mark g c ∷ w) end tokens x.1));
   comes = λ w end tokens x. (g, token_first f g 47 (mark g c ∷ w) end tokens (subst (λ (y : Place). TokenFrom y (47 ∷ []) f (mark g c ∷ w) end tokens) (sym (first_slash g)) (h.comes w end tokens x)));
@@ -218,13 +218,13 @@ token_end s read f g whole given e same = by_ended (ended s) refl
     by_ended None h =
         subst (λ (x : Bool). Ends (Token s) read f g x given) (sym (e ∙ ap is_some h)) (no_last s read f g given h)
 
-pub slash_end : (read : List ℕ) (f : Bool) (g : Goal) (whole : Bool) (given : Option Kind) → Ends (Token (behind_slash g)) (47 ∷ []) f g whole given → Ends Slash read f g whole given
+pub slash_end : (read : List ℕ) (f : Bool) (g : Goal) (whole : Bool) (given : Option Kind) → Ends (Token (past_slash g)) (47 ∷ []) f g whole given → Ends Slash read f g whole given
 slash_end read f g whole given h = record {
   goes = λ tokens x. h.goes tokens (by_first tokens (opened f x.0 47 [] g tokens x.1));
   comes = λ e. (g, token_first f g 47 [] g (cuts_at (given_by given (47 ∷ []) f) []) (subst (λ (y : Place). TokenFrom y (47 ∷ []) f [] g (cuts_at (given_by given (47 ∷ []) f) [])) (sym (first_slash g)) (h.comes e)));
 }
   where
-    by_first : (tokens : List Cut) → Opened f 47 [] g tokens → TokenFrom (behind_slash g) (47 ∷ []) f [] g tokens
+    by_first : (tokens : List Cut) → Opened f 47 [] g tokens → TokenFrom (past_slash g) (47 ∷ []) f [] g tokens
     by_first tokens (a_blank b _) = absurd (slash_no_blank 47 refl b)
     by_first tokens (a_line d v _ e _ _) = absurd cc
     by_first tokens (a_block d v _ e _ _) = absurd cc

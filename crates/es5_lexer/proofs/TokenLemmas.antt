@@ -29,7 +29,7 @@ use Rattle.es5_lexer.proofs.ClassLemmas.{slash, digit, start-no_blank}
 use Rattle.es5_lexer.proofs.PlaceLemmas.{goes, ends_here}
 use Rattle.es5_lexer.proofs.FirstLemmas.{first_goes, empty_no_kind}
 use Rattle.es5_lexer.proofs.LongestLemmas.{IsLongest, Finds, nothing, longest, finds}
-use Rattle.es5_lexer.proofs.ListLemmas.{append-none, last-is, front-is}
+use Rattle.es5_lexer.proofs.ListLemmas.{append-none, last-is, prefix-is}
 
 -- tokens and kinds
 
@@ -83,7 +83,7 @@ named_unbarred TText c h = absurd cc
 named_unbarred TPattern c h = absurd cc
 named_unbarred (TPunct p) c h = absurd cc
 
--- no character is barred behind a name
+-- no character is barred after a name
 pub name_unbarred : (u : List ℕ) (c : ℕ) → false ≡ is_barred (name_token u) c
 name_unbarred u c = named_unbarred (name_token u) c (named_by (is_escaped u) (word_of (spelled u)) (spelled u))
 
@@ -263,16 +263,16 @@ stands-no_trivium g t (c ∷ u) r s =
 
 record Longer (a b c d : List ℕ) : Type 0 where
   pub more : List ℕ
-  pub front : c ≡ a ++ more
+  pub prefix : c ≡ a ++ more
   pub back : b ≡ more ++ d
 
 longer_cut : (a b c d : List ℕ) → a ++ b ≡ c ++ d → length a ≤ length c → Longer a b c d
-longer_cut [] b c d e h = record { more = c; front = refl; back = e }
+longer_cut [] b c d e h = record { more = c; prefix = refl; back = e }
 longer_cut (x ∷ a) b [] d e h = absurd (omega arith)
 longer_cut (x ∷ a) b (y ∷ c) d e h =
     let head : x ≡ y = cc in let tail : a ++ b ≡ c ++ d = cc in
     let l = longer_cut a b c d tail (omega arith) in
-    record { more = l.more; front = ap (λ (w : List ℕ). y ∷ w) l.front ∙ ap (λ (n : ℕ). n ∷ (a ++ l.more)) (sym head); back = l.back }
+    record { more = l.more; prefix = ap (λ (w : List ℕ). y ∷ w) l.prefix ∙ ap (λ (n : ℕ). n ∷ (a ++ l.more)) (sym head); back = l.back }
 
 none_left : (u a : List ℕ) → length (u ++ a) ≤ length u → a ≡ []
 none_left u [] h = refl
@@ -305,8 +305,8 @@ stands-longest g t u r s = by_found _ (finds g (u ++ r))
     by_longest : (found : Option Longest) (x : Longest) → found ≡ Some x → IsLongest g (u ++ r) x → Same g t u r found
     by_longest found x e l =
         let cut = longer_cut u r (l.first ∷ l.others) l.rest l.splits (l.most u r kind.kind refl kind.is) in
-        let no_more : cut.more ≡ [] = s.longest cut.more l.rest (token_of x.kind (u ++ cut.more)) cut.back (kind_token g x.kind (u ++ cut.more) (subst (IsKind g x.kind) cut.front l.is)) in
-        let same_text : l.first ∷ l.others ≡ u = cut.front ∙ ap (λ (a : List ℕ). u ++ a) no_more ∙ append-none u in
+        let no_more : cut.more ≡ [] = s.longest cut.more l.rest (token_of x.kind (u ++ cut.more)) cut.back (kind_token g x.kind (u ++ cut.more) (subst (IsKind g x.kind) cut.prefix l.is)) in
+        let same_text : l.first ∷ l.others ≡ u = cut.prefix ∙ ap (λ (a : List ℕ). u ++ a) no_more ∙ append-none u in
         let same_rest : r ≡ l.rest = cut.back ∙ ap (λ (a : List ℕ). a ++ l.rest) no_more in
         let same_kind : x.kind ≡ kind.kind = one_kind g u x.kind kind.kind (subst (IsKind g x.kind) same_text l.is) kind.is in
         record {
@@ -337,30 +337,30 @@ pub pair_of : (a b : Token × ℕ) → Some a ≡ Some b → Pair a.0 a.1 b.0 b.
 unfolding token_in left_in
 pair_of a b e = record { token = ap token_in e; left = ap left_in e }
 
--- what stands at the front
+-- what stands at the beginning
 
 pub record StandsAt (g : Goal) (w : List ℕ) (t : Token) (n : ℕ) : Type 0 where
-  pub front : List ℕ
+  pub prefix : List ℕ
   pub rest : List ℕ
-  pub splits : w ≡ front ++ rest
+  pub splits : w ≡ prefix ++ rest
   pub left : n ≡ length rest
-  pub stands : Stands g t front rest
+  pub stands : Stands g t prefix rest
 
 pub token_at-some : (g : Goal) (w : List ℕ) (t : Token) (n : ℕ) → token_at g w ≡ Some (t, n) → StandsAt g w t n
 token_at-some g w t n e = by_found (longest_token g w) (finds g w) e
   where
     by_longest : (x : Longest) → IsLongest g w x → standing w x ≡ Some (t, n) → StandsAt g w t n
     by_longest x l f =
-        let front : take (length w - x.left) w ≡ l.first ∷ l.others = front-is w (l.first ∷ l.others) l.rest x.left l.splits l.left in
+        let prefix : take (length w - x.left) w ≡ l.first ∷ l.others = prefix-is w (l.first ∷ l.others) l.rest x.left l.splits l.left in
         let back : last x.left w ≡ l.rest = last-is w (l.first ∷ l.others) l.rest x.left l.splits l.left in
-        let tok : token_of x.kind (take (length w - x.left) w) ≡ token_of x.kind (l.first ∷ l.others) = ap (token_of x.kind) front in
+        let tok : token_of x.kind (take (length w - x.left) w) ≡ token_of x.kind (l.first ∷ l.others) = ap (token_of x.kind) prefix in
         elim (split (λ (o : Option (Token × ℕ)). o ≡ Some (t, n)) (may_precede (token_of x.kind (take (length w - x.left) w)) (last x.left w)) _ _ f) [
           | inl (b, h) ↦
               let pair : Pair (token_of x.kind (take (length w - x.left) w)) x.left t n = pair_of _ _ h in
               let same_token = pair.token in let same_left = pair.left in
               let free : may_precede (token_of x.kind (l.first ∷ l.others)) l.rest ≡ true = ap (λ (y : Token). may_precede y l.rest) (sym tok) ∙ ap (may_precede (token_of x.kind (take (length w - x.left) w))) (sym back) ∙ b in
               record {
-                front = l.first ∷ l.others;
+                prefix = l.first ∷ l.others;
                 rest = l.rest;
                 splits = l.splits;
                 left = sym same_left ∙ l.left;
@@ -377,9 +377,9 @@ token_at-some g w t n e = by_found (longest_token g w) (finds g w) e
 pub stands-token_at : (g : Goal) (t : Token) (u r : List ℕ) → Stands g t u r → token_at g (u ++ r) ≡ Some (t, length r)
 stands-token_at g t u r s =
     let l = stands-longest g t u r s in
-    let front : take (length (u ++ r) - l.one.left) (u ++ r) ≡ u = front-is (u ++ r) u r l.one.left refl l.left in
+    let prefix : take (length (u ++ r) - l.one.left) (u ++ r) ≡ u = prefix-is (u ++ r) u r l.one.left refl l.left in
     let back : last l.one.left (u ++ r) ≡ r = last-is (u ++ r) u r l.one.left refl l.left in
-    let tok : token_of l.one.kind (take (length (u ++ r) - l.one.left) (u ++ r)) ≡ t = ap (token_of l.one.kind) front ∙ l.gives in
+    let tok : token_of l.one.kind (take (length (u ++ r) - l.one.left) (u ++ r)) ≡ t = ap (token_of l.one.kind) prefix ∙ l.gives in
     let free : may_precede (token_of l.one.kind (take (length (u ++ r) - l.one.left) (u ++ r))) (last l.one.left (u ++ r)) ≡ true = ap (λ (y : Token). may_precede y (last l.one.left (u ++ r))) tok ∙ ap (may_precede t) back ∙ s.free in
     ap (token_at_from (u ++ r)) l.is
     ∙ then_in (λ (o : Option (Token × ℕ)). o ≡ Some (t, length r)) (may_precede (token_of l.one.kind (take (length (u ++ r) - l.one.left) (u ++ r))) (last l.one.left (u ++ r))) _ _ free
@@ -405,4 +405,4 @@ longest-name g w x e k = by_found (longest_token g w) (finds g w) e
         let left : x.left ≡ length l.rest = ap (λ (z : Longest). z.left) (sym same) ∙ l.left in
         let kind : y.kind ≡ AName = ap (λ (z : Longest). z.kind) same ∙ k in
         let name : IsKind g AName (l.first ∷ l.others) = subst (λ (z : Kind). IsKind g z (l.first ∷ l.others)) kind l.is in
-        subst IsName (sym (front-is w (l.first ∷ l.others) l.rest x.left l.splits left)) name
+        subst IsName (sym (prefix-is w (l.first ∷ l.others) l.rest x.left l.splits left)) name

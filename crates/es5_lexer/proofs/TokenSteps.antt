@@ -112,7 +112,7 @@ way s read f g c w end tokens h =
         let head : mark g c ≡ m = cc in let tail : w ≡ p ++ r = cc in
         inl (by_mark k m p r others (ap (λ (x : Mark). x.character) (sym head)) tail rest longest free further gives)
 
--- a whole token that goes on by a character: a longer one is whole with it, or it is barred behind this
+-- a whole token that goes on by a character: a longer one is whole with it, or it is barred after this
 -- one, or it begins an escape
 abbrev pub Further : Place → ℕ → Kind → Type 0
 Further s c k =
@@ -261,7 +261,7 @@ escape_part (x ∷ a ∷ b ∷ []) h = h
 escape_part (x ∷ a ∷ b ∷ c ∷ []) h = h
 escape_part (x ∷ a ∷ b ∷ c ∷ d ∷ u) h = (h.0, digits_part a b c d h.1, h.2)
 
--- behind a backslash no token stands but a name that begins with an escape
+-- after a backslash no token stands but a name that begins with an escape
 
 pub first_backslash : (g : Goal) (c : ℕ) → c ≡ 92 → first g c ≡ Escape FirstChar EscapeMark
 first_backslash g c e =

@@ -1,10 +1,10 @@
--- Trivia at the front of a text: what is found is an item, and each item is found.
+-- Trivia at the beginning of a text: what is found is an item, and each item is found.
 use Rattle.std.proofs.Common.{◌≡◌, ℕ, ◌≤◌, Bool, true, false, ◌&&◌, ◌||◌, ◌==◌, if◌then◌else◌, Option, Some, None, List, [], ◌∷◌, ◌++◌, length, inl, inr, refl, sym, ap, subst, ◌∙◌, arith}
 use Rattle.std.specs.List.{list_any}
 use Rattle.es5_lexer.specs.Characters.{is_line_end, is_space, is_line_end_class, is_space_class}
 use Rattle.es5_lexer.specs.Trivia.{is_blank, is_line_comment, EndsLine, IsCommentRest, IsBlockComment}
-use Rattle.es5_lexer.specs.Texts.{Mark, mark, chars, read_by, Item, blank, line, block, token, text, Fit, ended_by, ended_in, has_token, ended_behind, lexemes}
-use Rattle.es5_lexer.specs.Reading.{trivium_with, behind_line, block_comment, comment, leading_trivium}
+use Rattle.es5_lexer.specs.Texts.{Mark, mark, chars, read_by, Item, blank, line, block, token, text, Fit, ended_by, ended_in, has_token, ended_after, lexemes}
+use Rattle.es5_lexer.specs.Reading.{trivium_with, past_line, block_comment, comment, leading_trivium}
 use Rattle.es5_lexer.specs.declared.tokens.Goal.{Goal}
 use Rattle.es5_lexer.specs.declared.trivia.Trivium.{Trivium}
 use Rattle.es5_lexer.proofs.Choices.{split, then_in, else_in, is_same, not_or, or_not}
@@ -24,40 +24,40 @@ pub chars-append : (a b : List Mark) → chars (a ++ b) ≡ chars a ++ chars b
 chars-append [] b = refl
 chars-append (m ∷ a) b = ap (λ (w : List ℕ). m.character ∷ w) (chars-append a b)
 
--- what an item at the front of the text is, and what it leaves
+-- what an item at the beginning of the text is, and what it leaves
 pub record IsTrivium (g : Goal) (w : List ℕ) (t : Trivium) : Type 0 where
   pub item : Item
-  pub front : List ℕ
+  pub prefix : List ℕ
   pub rest : List ℕ
-  pub nonempty : 1 ≤ length front
-  pub splits : w ≡ front ++ rest
+  pub nonempty : 1 ≤ length prefix
+  pub splits : w ≡ prefix ++ rest
   pub left : t.left ≡ length rest
   pub spells : read_by g w ≡ text (item ∷ []) (read_by g rest)
   pub fits : Fit (item ∷ []) (read_by g rest) g
   pub only : has_token (item ∷ []) ≡ false
-  pub flag : (ended : Bool) → ended_behind ended (item ∷ []) ≡ (if t.ends_line then true else ended)
+  pub flag : (ended : Bool) → ended_after ended (item ∷ []) ≡ (if t.ends_line then true else ended)
 
 -- the rest of a line
 record Line (u rest : List ℕ) : Type 0 where
-  pub front : List ℕ
-  pub splits : u ≡ front ++ rest
-  pub is : is_line_comment front ≡ true
+  pub prefix : List ℕ
+  pub splits : u ≡ prefix ++ rest
+  pub is : is_line_comment prefix ≡ true
   pub ends : EndsLine rest
 
-line_of : (u : List ℕ) → Line u (behind_line u)
-line_of [] = record { front = []; splits = refl; is = refl; ends = tt }
+line_of : (u : List ℕ) → Line u (past_line u)
+line_of [] = record { prefix = []; splits = refl; is = refl; ends = tt }
 line_of (c ∷ u) = by_test (is_line_end c) refl (line_of u)
   where
-    by_test : (b : Bool) → is_line_end c ≡ b → Line u (behind_line u) → Line (c ∷ u) (if b then c ∷ u else behind_line u)
-    by_test true e l = record { front = []; splits = refl; is = refl; ends = e }
+    by_test : (b : Bool) → is_line_end c ≡ b → Line u (past_line u) → Line (c ∷ u) (if b then c ∷ u else past_line u)
+    by_test true e l = record { prefix = []; splits = refl; is = refl; ends = e }
     by_test false e l = record {
-      front = c ∷ l.front;
+      prefix = c ∷ l.prefix;
       splits = ap (λ (w : List ℕ). c ∷ w) l.splits;
       is = or_not _ _ e l.is;
       ends = l.ends;
     }
 
-line_found : (q rest : List ℕ) → is_line_comment q ≡ true → EndsLine rest → behind_line (q ++ rest) ≡ rest
+line_found : (q rest : List ℕ) → is_line_comment q ≡ true → EndsLine rest → past_line (q ++ rest) ≡ rest
 line_found [] [] h e = refl
 line_found [] (c ∷ u) h e = then_in (λ (w : List ℕ). w ≡ c ∷ u) (is_line_end c) _ _ e refl
 line_found (c ∷ q) rest h e =
@@ -102,11 +102,11 @@ block_found star ended (c ∷ q) rest (inr (t, h)) =
     (block_found (c == 42) (ended_by ended c) q rest h ∙ ap (λ (b : Bool). trivium_with b rest) (ended_in-more ended c q))
 
 record Block (star ended : Bool) (u : List ℕ) (t : Trivium) : Type 0 where
-  pub front : List ℕ
+  pub prefix : List ℕ
   pub rest : List ℕ
-  pub splits : u ≡ front ++ rest
-  pub is : IsCommentRest star front
-  pub ends : t.ends_line ≡ ended_in ended front
+  pub splits : u ≡ prefix ++ rest
+  pub is : IsCommentRest star prefix
+  pub ends : t.ends_line ≡ ended_in ended prefix
   pub left : t.left ≡ length rest
 
 block_of : (star ended : Bool) (u : List ℕ) (t : Trivium) → block_comment star ended u ≡ Some t → Block star ended u t
@@ -123,7 +123,7 @@ block_of star ended (c ∷ u) t e =
 
     closed : (star && (c == 47)) ≡ true → record { ends_line = ended; left = length u } ≡ t → Block star ended (c ∷ u) t
     closed b same = record {
-      front = c ∷ [];
+      prefix = c ∷ [];
       rest = u;
       splits = refl;
       is = inl (b, refl);
@@ -133,11 +133,11 @@ block_of star ended (c ∷ u) t e =
 
     further : (star && (c == 47)) ≡ false → Block (c == 42) (ended_by ended c) u t → Block star ended (c ∷ u) t
     further b k = record {
-      front = c ∷ k.front;
+      prefix = c ∷ k.prefix;
       rest = k.rest;
       splits = ap (λ (w : List ℕ). c ∷ w) k.splits;
       is = inr (b, k.is);
-      ends = k.ends ∙ ended_in-more ended c k.front;
+      ends = k.ends ∙ ended_in-more ended c k.prefix;
       left = k.left;
     }
 
@@ -152,7 +152,7 @@ blank_is : (g : Goal) (c : ℕ) (u : List ℕ) (b : Bool) (t : Trivium) → is_b
 blank_is g c u b t h e same =
     subst (λ (x : Trivium). IsTrivium g (c ∷ u) x) same (record {
       item = blank (mark g c);
-      front = c ∷ [];
+      prefix = c ∷ [];
       rest = u;
       nonempty = omega arith;
       splits = refl;
@@ -163,41 +163,41 @@ blank_is g c u b t h e same =
       flag = λ ended. ap (λ (x : Bool). if x then true else ended) e;
     })
 
-line_is : (g : Goal) (c d : ℕ) (u : List ℕ) (t : Trivium) → c ≡ 47 → d ≡ 47 → record { ends_line = false; left = length (behind_line u) } ≡ t → IsTrivium g (c ∷ d ∷ u) t
+line_is : (g : Goal) (c d : ℕ) (u : List ℕ) (t : Trivium) → c ≡ 47 → d ≡ 47 → record { ends_line = false; left = length (past_line u) } ≡ t → IsTrivium g (c ∷ d ∷ u) t
 line_is g c d u t e f same =
     let l = line_of u in
     subst (λ (x : Trivium). IsTrivium g (c ∷ d ∷ u) x) same (record {
-      item = line (mark g c) (mark g d) (read_by g l.front);
-      front = c ∷ d ∷ l.front;
-      rest = behind_line u;
+      item = line (mark g c) (mark g d) (read_by g l.prefix);
+      prefix = c ∷ d ∷ l.prefix;
+      rest = past_line u;
       nonempty = omega arith;
       splits = ap (λ (w : List ℕ). c ∷ d ∷ w) l.splits;
       left = refl;
-      spells = ap (λ (w : List Mark). mark g c ∷ mark g d ∷ w) (ap (read_by g) l.splits ∙ read_by-append g l.front (behind_line u));
-      fits = ((e, f, subst (λ (w : List ℕ). is_line_comment w ≡ true) (sym (chars-read_by g l.front)) l.is), subst EndsLine (sym (chars-read_by g (behind_line u))) l.ends, tt);
+      spells = ap (λ (w : List Mark). mark g c ∷ mark g d ∷ w) (ap (read_by g) l.splits ∙ read_by-append g l.prefix (past_line u));
+      fits = ((e, f, subst (λ (w : List ℕ). is_line_comment w ≡ true) (sym (chars-read_by g l.prefix)) l.is), subst EndsLine (sym (chars-read_by g (past_line u))) l.ends, tt);
       only = refl;
       flag = λ ended. refl;
     })
 
 block_is : (g : Goal) (c d : ℕ) (u : List ℕ) (t : Trivium) → c ≡ 47 → d ≡ 42 → Block false false u t → IsTrivium g (c ∷ d ∷ u) t
 block_is g c d u t e f b = record {
-  item = block (mark g c) (mark g d) (read_by g b.front);
-  front = c ∷ d ∷ b.front;
+  item = block (mark g c) (mark g d) (read_by g b.prefix);
+  prefix = c ∷ d ∷ b.prefix;
   rest = b.rest;
   nonempty = omega arith;
   splits = ap (λ (w : List ℕ). c ∷ d ∷ w) b.splits;
   left = b.left;
-  spells = ap (λ (w : List Mark). mark g c ∷ mark g d ∷ w) (ap (read_by g) b.splits ∙ read_by-append g b.front b.rest);
-  fits = ((e, f, subst IsBlockComment (sym (chars-read_by g b.front)) b.is), tt);
+  spells = ap (λ (w : List Mark). mark g c ∷ mark g d ∷ w) (ap (read_by g) b.splits ∙ read_by-append g b.prefix b.rest);
+  fits = ((e, f, subst IsBlockComment (sym (chars-read_by g b.prefix)) b.is), tt);
   only = refl;
-  flag = λ ended. ap (ended_in ended) (chars-read_by g b.front) ∙ flag_in (list_any is_line_end b.front) ended ∙ ap (λ (x : Bool). if x then true else ended) (sym b.ends);
+  flag = λ ended. ap (ended_in ended) (chars-read_by g b.prefix) ∙ flag_in (list_any is_line_end b.prefix) ended ∙ ap (λ (x : Bool). if x then true else ended) (sym b.ends);
 }
 
 comment_is : (g : Goal) (c : ℕ) (u : List ℕ) (t : Trivium) → c ≡ 47 → comment u ≡ Some t → IsTrivium g (c ∷ u) t
 comment_is g c [] t e f = absurd cc
 comment_is g c (d ∷ u) t e f =
     elim (split (λ (o : Option Trivium). o ≡ Some t) (d == 47) _ _ f) [
-      | inl (b, h) ↦ let same : record { ends_line = false; left = length (behind_line u) } ≡ t = cc in line_is g c d u t e (is_same d 47 b) same
+      | inl (b, h) ↦ let same : record { ends_line = false; left = length (past_line u) } ≡ t = cc in line_is g c d u t e (is_same d 47 b) same
       | inr (_, h) ↦ elim (split (λ (o : Option Trivium). o ≡ Some t) (d == 42) _ _ h) [
         | inl (b, k) ↦ block_is g c d u t e (is_same d 42 b) (block_of false false u t k)
         | inr (_, k) ↦ absurd cc
@@ -251,18 +251,18 @@ item_found (blank m) rest end o (h, _) = by_test (is_line_end m.character) (is_s
 item_found (line a b q) rest end o ((e, f, h), k, _) =
     slash_first a.character b.character (chars (q ++ rest)) e
     ∙ then_in (λ (o : Option Trivium). o ≡ trivium_with false (chars rest)) (b.character == 47) _ _ (ap (λ (x : ℕ). x == 47) f)
-    (ap (trivium_with false) (ap behind_line (chars-append q rest) ∙ line_found (chars q) (chars rest) h k))
+    (ap (trivium_with false) (ap past_line (chars-append q rest) ∙ line_found (chars q) (chars rest) h k))
 item_found (block a b q) rest end o ((e, f, h), _) =
     slash_first a.character b.character (chars (q ++ rest)) e
     ∙ subst (λ (x : ℕ). comment (x ∷ chars (q ++ rest)) ≡ trivium_with (item_ends (block a b q)) (chars rest)) (sym f)
     (ap (block_comment false false) (chars-append q rest) ∙ block_found false false (chars q) (chars rest) h)
 item_found (token t a q) rest end o h = absurd cc
 
-pub item_flag : (item : Item) (items : List Item) (ended : Bool) → has_token (item ∷ []) ≡ false → ended_behind ended (item ∷ items) ≡ ended_behind (if item_ends item then true else ended) items
+pub item_flag : (item : Item) (items : List Item) (ended : Bool) → has_token (item ∷ []) ≡ false → ended_after ended (item ∷ items) ≡ ended_after (if item_ends item then true else ended) items
 item_flag (blank m) items ended o = refl
 item_flag (line a b q) items ended o = refl
 item_flag (block a b q) items ended o =
-    ap (λ (x : Bool). ended_behind x items) (flag_in (list_any is_line_end (chars q)) ended)
+    ap (λ (x : Bool). ended_after x items) (flag_in (list_any is_line_end (chars q)) ended)
 item_flag (token t a q) items ended o = absurd cc
 
 pub item_lexemes : (item : Item) (items : List Item) (ended : Bool) → has_token (item ∷ []) ≡ false → lexemes ended (item ∷ items) ≡ lexemes (if item_ends item then true else ended) items

@@ -7,13 +7,13 @@ use Rattle.es5_lexer.specs.declared.tokens.Goal.{Goal}
 use Rattle.es5_lexer.specs.declared.tokens.Lexeme.{Lexeme}
 
 -- a text with tokens begins so
-pub record IsFront (w : List Mark) : Type 0 where
+pub record IsPrefix (w : List Mark) : Type 0 where
   pub back : List Mark
   pub end : Goal
   pub tokens : List Lexeme
   pub lexes : Lexes (w ++ back) end tokens
 
--- what may stand behind the `\` of an escape that isn't whole
+-- what may stand after the `\` of an escape that isn't whole
 abbrev pub is_open_escape : List ℕ → Bool
 is_open_escape [] = true
 is_open_escape (c ∷ []) = c == small_u
@@ -26,14 +26,14 @@ is_open_escape _ = false
 -- that came with the backslash, a text with tokens begins so: the class of a character that is
 -- written by an escape is asked only once its four digits are there
 pub record EndsInEscape (w : List Mark) : Type 0 where
-  pub front : List Mark
+  pub prefix : List Mark
   pub backslash : Mark
   pub digits : List Mark
-  pub splits : w ≡ front ++ backslash ∷ digits
+  pub splits : w ≡ prefix ++ backslash ∷ digits
   pub is_backslash : backslash.character ≡ reverse_solidus
   pub is_open : is_open_escape (chars digits) ≡ true
-  pub begins : IsFront (front ++ mark backslash.reading dollar_sign ∷ [])
+  pub begins : IsPrefix (prefix ++ mark backslash.reading dollar_sign ∷ [])
 
 -- characters, under the goals that came with them, begin a text with tokens
 abbrev pub Begins : List Mark → Type 0
-Begins w = IsFront w ⊎ EndsInEscape w
+Begins w = IsPrefix w ⊎ EndsInEscape w

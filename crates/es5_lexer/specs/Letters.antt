@@ -31,7 +31,7 @@ abbrev pub with_letter : List ℕ → Option ℕ → List ℕ
 with_letter v None = v
 with_letter v (Some c) = if nat_lt (length v) 11 then v ++ kept_letter c ∷ [] else v
 
--- the letter of a name that is whole with the character behind the place
+-- the letter of a name that is whole with the character after the place
 abbrev pub letter : Place → ℕ → Option ℕ
 letter Name c = if c == reverse_solidus then None else Some c
 letter (Escape host (ThreeDigits a b d)) c = escaped a b d c

@@ -3,7 +3,7 @@ use Rattle.std.specs.Prelude.{◌≡◌, ℕ, true, false, List, [], ◌∷◌, 
 use Rattle.es5_lexer.specs.CodePoints.{dollar_sign, reverse_solidus}
 use Rattle.es5_lexer.specs.Texts.{Mark, mark, chars}
 use Rattle.es5_lexer.specs.Cuts.{Cut, CutsFrom, lexemes_of}
-use Rattle.es5_lexer.specs.Begins.{IsFront, is_open_escape}
+use Rattle.es5_lexer.specs.Begins.{IsPrefix, is_open_escape}
 use Rattle.es5_lexer.specs.Residuals.{GoesOn, own}
 use Rattle.es5_lexer.specs.PlaceResiduals.{with_seen}
 use Rattle.es5_lexer.specs.Letters.{HeardAt}
@@ -38,7 +38,7 @@ pub record EscapeAt (seen : Seen) (m : List Mark) : Type 0 where
   pub is_backslash : backslash.character ≡ reverse_solidus
   pub spells : chars digits ≡ with_seen seen []
   pub is_open : is_open_escape (with_seen seen []) ≡ true
-  pub begins : IsFront (before ++ mark backslash.reading dollar_sign ∷ [])
+  pub begins : IsPrefix (before ++ mark backslash.reading dollar_sign ∷ [])
 
 -- where such an escape leaves a string
 abbrev pub text_place : Seen → TextPlace

@@ -20,7 +20,7 @@ abbrev mutual
   AreParts [] = Unit {0}
   AreParts (c ∷ u) = ((is_part c ≡ true) × AreParts u) ⊎ ((c ≡ reverse_solidus) × AreEscaped is_part u)
 
-  -- what stands behind a `\`: the rest of an escape of a character of the set, then name parts
+  -- what stands after a `\`: the rest of an escape of a character of the set, then name parts
   pub AreEscaped : (ℕ → Bool) → List ℕ → Type 0
   AreEscaped set (x ∷ a ∷ b ∷ c ∷ d ∷ u) =
       (x ≡ small_u) × (is_escape_of set a b c d ≡ true) × AreParts u

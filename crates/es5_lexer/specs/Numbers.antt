@@ -8,7 +8,7 @@
 --   HexIntegerLiteral :: 0 (x | X) HexDigit+
 --   OctalIntegerLiteral :: 0 OctalDigit+
 --
--- Each definition says which texts may stand behind what was read of a literal.
+-- Each definition says which texts may stand after what was read of a literal.
 use Rattle.std.specs.Prelude.{◌≡◌, ℕ, Bool, true, ◌||◌, List, [], ◌∷◌, ◌==◌, ◌⊎◌}
 use Rattle.std.specs.Int.{is_in_range}
 use Rattle.es5_lexer.specs.CodePoints.{plus_sign, hyphen_minus, full_stop, digit_zero, digit_one, digit_nine, capital_e, capital_x, small_e, small_x}
@@ -45,22 +45,22 @@ IsSignedInteger (c ∷ u) =
     ((is_sign c ≡ true) × AreSomeDigits u) ⊎ ((is_digit c ≡ true) × AreDigits u)
 
 -- DecimalDigits? ExponentPart?
-abbrev pub IsBehindPoint : List ℕ → Type 0
-IsBehindPoint [] = Unit {0}
-IsBehindPoint (c ∷ u) =
-    ((is_digit c ≡ true) × IsBehindPoint u) ⊎ ((is_exponent_mark c ≡ true) × IsSignedInteger u)
+abbrev pub IsAfterPoint : List ℕ → Type 0
+IsAfterPoint [] = Unit {0}
+IsAfterPoint (c ∷ u) =
+    ((is_digit c ≡ true) × IsAfterPoint u) ⊎ ((is_exponent_mark c ≡ true) × IsSignedInteger u)
 
 -- DecimalDigits ExponentPart?
 abbrev pub IsFraction : List ℕ → Type 0
 IsFraction [] = ⊥
-IsFraction (c ∷ u) = (is_digit c ≡ true) × IsBehindPoint u
+IsFraction (c ∷ u) = (is_digit c ≡ true) × IsAfterPoint u
 
--- behind a digit of DecimalIntegerLiteral other than 0
-abbrev pub IsBehindDigit : List ℕ → Type 0
-IsBehindDigit [] = Unit {0}
-IsBehindDigit (c ∷ u) =
-    ((is_digit c ≡ true) × IsBehindDigit u)
-    ⊎ (((c ≡ full_stop) × IsBehindPoint u) ⊎ ((is_exponent_mark c ≡ true) × IsSignedInteger u))
+-- after a digit of DecimalIntegerLiteral other than 0
+abbrev pub IsAfterDigit : List ℕ → Type 0
+IsAfterDigit [] = Unit {0}
+IsAfterDigit (c ∷ u) =
+    ((is_digit c ≡ true) × IsAfterDigit u)
+    ⊎ (((c ≡ full_stop) × IsAfterPoint u) ⊎ ((is_exponent_mark c ≡ true) × IsSignedInteger u))
 
 -- zero or more hexadecimal digits
 abbrev pub AreHexDigits : List ℕ → Type 0
@@ -77,16 +77,16 @@ abbrev pub AreOctalDigits : List ℕ → Type 0
 AreOctalDigits [] = Unit {0}
 AreOctalDigits (c ∷ u) = (is_octal c ≡ true) × AreOctalDigits u
 
--- behind a first 0
-abbrev pub IsBehindZero : List ℕ → Type 0
-IsBehindZero [] = Unit {0}
-IsBehindZero (c ∷ u) =
+-- after a first 0
+abbrev pub IsAfterZero : List ℕ → Type 0
+IsAfterZero [] = Unit {0}
+IsAfterZero (c ∷ u) =
     ((is_octal c ≡ true) × AreOctalDigits u)
-    ⊎ (((c ≡ full_stop) × IsBehindPoint u)
+    ⊎ (((c ≡ full_stop) × IsAfterPoint u)
     ⊎ (((is_exponent_mark c ≡ true) × IsSignedInteger u) ⊎ ((is_hex_mark c ≡ true) × AreSomeHexDigits u)))
 
 -- NumericLiteral
 abbrev pub IsNumber : List ℕ → Type 0
 IsNumber [] = ⊥
 IsNumber (c ∷ u) =
-    ((c ≡ digit_zero) × IsBehindZero u) ⊎ (((is_nonzero c ≡ true) × IsBehindDigit u) ⊎ ((c ≡ full_stop) × IsFraction u))
+    ((c ≡ digit_zero) × IsAfterZero u) ⊎ (((is_nonzero c ≡ true) × IsAfterDigit u) ⊎ ((c ≡ full_stop) × IsFraction u))

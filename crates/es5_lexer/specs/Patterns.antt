@@ -27,34 +27,34 @@ abbrev pub is_class_char : ℕ → Bool
 is_class_char c = not ((c == right_square_bracket) || ((c == reverse_solidus) || is_line_end c))
 
 abbrev mutual
-  -- what may stand behind a whole character of a body: more of it, `/` and flags
+  -- what may stand after a whole character of a body: more of it, `/` and flags
   pub IsBodyRest : List ℕ → Type 0
   IsBodyRest [] = ⊥
   IsBodyRest (c ∷ u) =
       ((c ≡ solidus) × AreParts u)
-      ⊎ (((is_body_char c ≡ true) × IsBodyRest u) ⊎ (((c ≡ reverse_solidus) × IsBehindBackslash u) ⊎ ((c ≡ left_square_bracket) × IsClassRest u)))
+      ⊎ (((is_body_char c ≡ true) × IsBodyRest u) ⊎ (((c ≡ reverse_solidus) × IsAfterBackslash u) ⊎ ((c ≡ left_square_bracket) × IsClassRest u)))
 
-  -- behind a `\`
-  pub IsBehindBackslash : List ℕ → Type 0
-  IsBehindBackslash [] = ⊥
-  IsBehindBackslash (c ∷ u) = (not (is_line_end c) ≡ true) × IsBodyRest u
+  -- after a `\`
+  pub IsAfterBackslash : List ℕ → Type 0
+  IsAfterBackslash [] = ⊥
+  IsAfterBackslash (c ∷ u) = (not (is_line_end c) ≡ true) × IsBodyRest u
 
   -- in a class
   pub IsClassRest : List ℕ → Type 0
   IsClassRest [] = ⊥
   IsClassRest (c ∷ u) =
-      ((c ≡ right_square_bracket) × IsBodyRest u) ⊎ (((is_class_char c ≡ true) × IsClassRest u) ⊎ ((c ≡ reverse_solidus) × IsBehindClassBackslash u))
+      ((c ≡ right_square_bracket) × IsBodyRest u) ⊎ (((is_class_char c ≡ true) × IsClassRest u) ⊎ ((c ≡ reverse_solidus) × IsAfterClassBackslash u))
 
-  -- behind a `\` in a class
-  pub IsBehindClassBackslash : List ℕ → Type 0
-  IsBehindClassBackslash [] = ⊥
-  IsBehindClassBackslash (c ∷ u) = (not (is_line_end c) ≡ true) × IsClassRest u
+  -- after a `\` in a class
+  pub IsAfterClassBackslash : List ℕ → Type 0
+  IsAfterClassBackslash [] = ⊥
+  IsAfterClassBackslash (c ∷ u) = (not (is_line_end c) ≡ true) × IsClassRest u
 
 -- RegularExpressionBody, `/` and flags
 abbrev pub IsBody : List ℕ → Type 0
 IsBody [] = ⊥
 IsBody (c ∷ u) =
-    ((is_first_char c ≡ true) × IsBodyRest u) ⊎ (((c ≡ reverse_solidus) × IsBehindBackslash u) ⊎ ((c ≡ left_square_bracket) × IsClassRest u))
+    ((is_first_char c ≡ true) × IsBodyRest u) ⊎ (((c ≡ reverse_solidus) × IsAfterBackslash u) ⊎ ((c ≡ left_square_bracket) × IsClassRest u))
 
 -- RegularExpressionLiteral
 abbrev pub IsPattern : List ℕ → Type 0

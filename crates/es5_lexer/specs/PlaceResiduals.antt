@@ -5,9 +5,9 @@ use Rattle.es5_lexer.specs.Characters.{is_digit}
 use Rattle.es5_lexer.specs.Suits.{is_div}
 use Rattle.es5_lexer.specs.Names.{AreParts, AreEscaped, IsName}
 use Rattle.es5_lexer.specs.Punctuators.{spelling, is_under}
-use Rattle.es5_lexer.specs.Numbers.{AreDigits, AreSomeDigits, IsSignedInteger, IsBehindPoint, IsBehindDigit, IsBehindZero, AreHexDigits, AreSomeHexDigits, AreOctalDigits, IsNumber}
-use Rattle.es5_lexer.specs.Strings.{IsStringRest, IsBehindEscape, IsLfThen, AreHexThen, IsString}
-use Rattle.es5_lexer.specs.Patterns.{IsBodyRest, IsBehindBackslash, IsClassRest, IsBehindClassBackslash, IsBody, IsPattern}
+use Rattle.es5_lexer.specs.Numbers.{AreDigits, AreSomeDigits, IsSignedInteger, IsAfterPoint, IsAfterDigit, IsAfterZero, AreHexDigits, AreSomeHexDigits, AreOctalDigits, IsNumber}
+use Rattle.es5_lexer.specs.Strings.{IsStringRest, IsAfterEscape, IsLfThen, AreHexThen, IsString}
+use Rattle.es5_lexer.specs.Patterns.{IsBodyRest, IsAfterBackslash, IsClassRest, IsAfterClassBackslash, IsBody, IsPattern}
 use Rattle.es5_lexer.specs.Places.{set_of, longer}
 use Rattle.es5_lexer.specs.declared.tokens.Goal.{Goal}
 use Rattle.es5_lexer.specs.declared.tokens.Punct.{Punct}
@@ -56,17 +56,17 @@ with_seen (ThreeDigits a b c) u = small_u ∷ a ∷ b ∷ c ∷ u
 abbrev pub EscapeResidual : Host → Seen → List ℕ → Type 0
 EscapeResidual host seen u = AreEscaped (set_of host) (with_seen seen u)
 
--- behind a whole punctuator: the rest of a longer one, or of a number that begins with a point
+-- after a whole punctuator: the rest of a longer one, or of a number that begins with a point
 abbrev pub MarkResidual : Punct → Kind → List ℕ → Type 0
 MarkResidual p k [] = k ≡ APunct p
 MarkResidual p k (c ∷ u) =
     ((q : Punct) × (longer p c ≡ Some q) × MarkResidual q k u)
-    ⊎ ((p ≡ Dot) × (is_digit c ≡ true) × (k ≡ ANumber) × IsBehindPoint u)
+    ⊎ ((p ≡ Dot) × (is_digit c ≡ true) × (k ≡ ANumber) × IsAfterPoint u)
 
 abbrev pub NumberResidual : NumberPlace → List ℕ → Type 0
-NumberResidual Zero u = IsBehindZero u
-NumberResidual Digit u = IsBehindDigit u
-NumberResidual Point u = IsBehindPoint u
+NumberResidual Zero u = IsAfterZero u
+NumberResidual Digit u = IsAfterDigit u
+NumberResidual Point u = IsAfterPoint u
 NumberResidual Exponent u = IsSignedInteger u
 NumberResidual Sign u = AreSomeDigits u
 NumberResidual ExponentDigit u = AreDigits u
@@ -74,7 +74,7 @@ NumberResidual HexMark u = AreSomeHexDigits u
 NumberResidual HexDigit u = AreHexDigits u
 NumberResidual OctalDigit u = AreOctalDigits u
 
--- how many digits are missing behind the next one
+-- how many digits are missing after the next one
 abbrev pub further : Left → ℕ
 further One = 0
 further Two = 1
@@ -83,7 +83,7 @@ further Four = 3
 
 abbrev pub TextResidual : Quote → TextPlace → List ℕ → Type 0
 TextResidual q Chars u = IsStringRest q u
-TextResidual q TextEscape u = IsBehindEscape q u
+TextResidual q TextEscape u = IsAfterEscape q u
 TextResidual q Cr u = IsStringRest q u ⊎ IsLfThen q u
 TextResidual q (Hex left) u = AreHexThen (further left) q u
 TextResidual q End u = u ≡ []
@@ -91,9 +91,9 @@ TextResidual q End u = u ≡ []
 abbrev pub PatternResidual : PatternPlace → List ℕ → Type 0
 PatternResidual BodyStart u = IsBody u
 PatternResidual Body u = IsBodyRest u
-PatternResidual BodyEscape u = IsBehindBackslash u
+PatternResidual BodyEscape u = IsAfterBackslash u
 PatternResidual Class u = IsClassRest u
-PatternResidual ClassEscape u = IsBehindClassBackslash u
+PatternResidual ClassEscape u = IsAfterClassBackslash u
 PatternResidual Flags u = AreParts u
 
 -- the residual of a place: what completes a token of the kind there

@@ -98,20 +98,20 @@ set_of FirstChar = is_start
 set_of LaterChar = is_part
 set_of FlagChar = is_part
 
--- behind a whole character of it
-abbrev pub behind : Host → Place
-behind FirstChar = Name
-behind LaterChar = Name
-behind FlagChar = Pattern Flags
+-- after a whole character of it
+abbrev pub after : Host → Place
+after FirstChar = Name
+after LaterChar = Name
+after FlagChar = Pattern Flags
 
-abbrev pub behind_slash : Goal → Place
-behind_slash g = if is_div g then Mark Slash else Pattern BodyStart
+abbrev pub past_slash : Goal → Place
+past_slash g = if is_div g then Mark Slash else Pattern BodyStart
 
-abbrev pub behind_mark : Option Punct → Place
-behind_mark (Some p) = Mark p
-behind_mark None = Dead
+abbrev pub after_mark : Option Punct → Place
+after_mark (Some p) = Mark p
+after_mark None = Dead
 
--- behind the first character of a token
+-- after the first character of a token
 abbrev pub first : Goal → ℕ → Place
 first g c =
     if is_start c then Name
@@ -120,18 +120,18 @@ first g c =
     else if is_nonzero c then Number Digit
     else if c == quotation_mark then Text Double Chars
     else if c == apostrophe then Text Single Chars
-    else if c == solidus then behind_slash g
-    else behind_mark (mark c)
+    else if c == solidus then past_slash g
+    else after_mark (mark c)
 
 abbrev pub next_in_parts : Host → ℕ → Place
-next_in_parts host c = if is_part c then behind host else if c == reverse_solidus then Escape host EscapeMark else Dead
+next_in_parts host c = if is_part c then after host else if c == reverse_solidus then Escape host EscapeMark else Dead
 
 abbrev pub next_in_escape : Host → Seen → ℕ → Place
 next_in_escape host EscapeMark c = if c == small_u then Escape host EscapeLetter else Dead
 next_in_escape host EscapeLetter c = if is_hex c then Escape host (OneDigit c) else Dead
 next_in_escape host (OneDigit a) c = if is_hex c then Escape host (TwoDigits a c) else Dead
 next_in_escape host (TwoDigits a b) c = if is_hex c then Escape host (ThreeDigits a b c) else Dead
-next_in_escape host (ThreeDigits a b d) c = if is_escape_of (set_of host) a b d c then behind host else Dead
+next_in_escape host (ThreeDigits a b d) c = if is_escape_of (set_of host) a b d c then after host else Dead
 
 abbrev pub is_dot : Punct → Bool
 is_dot Dot = true
@@ -167,8 +167,8 @@ next_in_chars q c =
     else if c == reverse_solidus then Text q TextEscape
     else if is_line_end c then Dead else Text q Chars
 
-abbrev pub behind_text_escape : Quote → ℕ → Place
-behind_text_escape q c =
+abbrev pub after_text_escape : Quote → ℕ → Place
+after_text_escape q c =
     if c == small_x then Text q (Hex Two)
     else if c == small_u then Text q (Hex Four)
     else if c == carriage_return then Text q Cr else Text q Chars
@@ -181,7 +181,7 @@ fewer Four = Hex Three
 
 abbrev pub next_in_text : Quote → TextPlace → ℕ → Place
 next_in_text q Chars c = next_in_chars q c
-next_in_text q TextEscape c = behind_text_escape q c
+next_in_text q TextEscape c = after_text_escape q c
 next_in_text q Cr c = if c == line_feed then Text q Chars else next_in_chars q c
 next_in_text q (Hex left) c = if is_hex c then Text q (fewer left) else Dead
 next_in_text q End c = Dead
@@ -206,7 +206,7 @@ next_in_pattern Class c = next_in_class c
 next_in_pattern ClassEscape c = if is_line_end c then Dead else Pattern Class
 next_in_pattern Flags c = next_in_parts FlagChar c
 
--- behind one character more
+-- after one character more
 abbrev pub next : Place → ℕ → Place
 next Name c = next_in_parts LaterChar c
 next (Escape host seen) c = next_in_escape host seen c

@@ -7,7 +7,7 @@ use Rattle.es5_lexer.specs.Trivia.{is_blank, is_line_comment, EndsLine, IsCommen
 use Rattle.es5_lexer.specs.Tokens.{is_barred, may_precede}
 use Rattle.es5_lexer.specs.Texts.{Mark, mark, chars, ended_in}
 use Rattle.es5_lexer.specs.Cuts.{Cut, cut, CutsFrom, cuts_at}
-use Rattle.es5_lexer.specs.Places.{first, next, ended, is_dead, behind_slash}
+use Rattle.es5_lexer.specs.Places.{first, next, ended, is_dead, past_slash}
 use Rattle.es5_lexer.specs.PlaceResiduals.{PlaceResidual}
 use Rattle.es5_lexer.specs.Reading.{token_of}
 use Rattle.es5_lexer.specs.declared.tokens.Goal.{Goal}
@@ -45,7 +45,7 @@ pub record LineFrom (newline : Bool) (w : List Mark) (end : Goal) (tokens : List
   pub ends : EndsLine (chars after)
   pub further : CutsFrom newline after end tokens
 
--- in a comment of several lines, behind a `*` or not
+-- in a comment of several lines, after a `*` or not
 pub record BlockFrom (star newline : Bool) (w : List Mark) (end : Goal) (tokens : List Cut) : Type 0 where
   pub comment : List Mark
   pub after : List Mark
@@ -73,7 +73,7 @@ own Slash read = solidus ∷ []
 own (Token place) read = read
 own _ read = []
 
--- the same behind a character, where a token has ended before it or none has
+-- the same after a character, where a token has ended before it or none has
 abbrev pub own_after : Option Kind → List ℕ → ℕ → List ℕ
 own_after None read c = c ∷ read
 own_after (Some k) read c = c ∷ []
@@ -123,7 +123,7 @@ abbrev pub Leads : State → Goal → ℕ → Option Kind → State → Type 0
 Leads Start g c None t = LeadsStart g c t
 Leads Slash g c None LineComment = c ≡ solidus
 Leads Slash g c None (BlockComment star) = c ≡ asterisk
-Leads Slash g c given t = LeadsFrom (behind_slash g) g c given t
+Leads Slash g c given t = LeadsFrom (past_slash g) g c given t
 Leads LineComment g c None t = t ≡ (if is_line_end c then Start else LineComment)
 Leads (BlockComment star) g c None t = t ≡ (if star && (c == solidus) then Start else BlockComment (c == asterisk))
 Leads (Token p) g c given t = LeadsFrom p g c given t
@@ -132,7 +132,7 @@ Leads _ g c (Some k) t = ⊥
 -- the token that ends with the text
 abbrev pub EndsAs : State → Goal → Bool → Option Kind → Type 0
 EndsAs (Token p) g whole given = whole ≡ true → given ≡ ended p
-EndsAs Slash g whole given = whole ≡ true → given ≡ ended (behind_slash g)
+EndsAs Slash g whole given = whole ≡ true → given ≡ ended (past_slash g)
 EndsAs _ g whole given = given ≡ None
 
 -- a name stands at the state, or what may become one

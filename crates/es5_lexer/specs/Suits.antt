@@ -20,7 +20,7 @@ suits (APunct SlashAssign) g = is_div g
 suits Pattern g = not (is_div g)
 suits _ g = true
 
--- the goal suits the first of the tokens that stands behind those given
+-- the goal suits the first of the tokens that stands after those given
 abbrev pub Suits : List Lexeme → Goal → List Lexeme → Type 0
 Suits given goal tokens =
     (x : Lexeme) (others : List Lexeme) → tokens ≡ given ++ (x ∷ others) → suits x.token goal ≡ true

@@ -2,7 +2,7 @@
 --
 -- A slash may be read in two ways, and which one the grammar of programs tells. So a text is
 -- characters, each with the goal that came with it: a slash that begins a token is read by the goal
--- of the character behind it, or by the goal that came with the end.
+-- of the character after it, or by the goal that came with the end.
 use Rattle.std.specs.Prelude.{◌≡◌, ℕ, Bool, true, false, if◌then◌else◌, List, [], ◌∷◌, ◌++◌}
 use Rattle.std.specs.List.{list_any}
 use Rattle.es5_lexer.specs.CodePoints.{asterisk, solidus}
@@ -43,7 +43,7 @@ pub data Item : Type 0 where
   block : Mark → Mark → List Mark → Item
   token : Token → Mark → List Mark → Item
 
--- the text of the items, in front of what follows them
+-- the text of the items, before what follows them
 abbrev pub text : List Item → List Mark → List Mark
 text [] rest = rest
 text (blank m ∷ items) rest = m ∷ text items rest
@@ -51,7 +51,7 @@ text (line a b q ∷ items) rest = a ∷ b ∷ (q ++ text items rest)
 text (block a b q ∷ items) rest = a ∷ b ∷ (q ++ text items rest)
 text (token t a q ∷ items) rest = a ∷ (q ++ text items rest)
 
--- each item is what it says, in front of what follows it
+-- each item is what it says, before what follows it
 abbrev pub Fit : List Item → List Mark → Goal → Type 0
 Fit [] rest end = Unit {0}
 Fit (blank m ∷ items) rest end = (is_blank m.character ≡ true) × Fit items rest end
@@ -65,11 +65,11 @@ Fit (token t a q ∷ items) rest end =
     Stands (asked (q ++ text items rest) end) t (a.character ∷ chars q) (chars (text items rest))
     × Fit items rest end
 
--- whether a line has ended since the last token, behind one character more
+-- whether a line has ended since the last token, after one character more
 abbrev pub ended_by : Bool → ℕ → Bool
 ended_by ended c = if is_line_end c then true else ended
 
--- the same behind the characters of a comment
+-- the same after the characters of a comment
 abbrev pub ended_in : Bool → List ℕ → Bool
 ended_in ended u = if list_any is_line_end u then true else ended
 
@@ -92,7 +92,7 @@ pub record LexesFrom (ended : Bool) (w : List Mark) (end : Goal) (tokens : List 
 abbrev pub Lexes : List Mark → Goal → List Lexeme → Type 0
 Lexes w end tokens = LexesFrom false w end tokens
 
--- m and the rest behind it make a text with tokens, of which these are the first and end within m
+-- m and the rest after it make a text with tokens, of which these are the first and end within m
 pub record EndWithin (m rest : List Mark) (end : Goal) (tokens : List Lexeme) : Type 0 where
   pub items : List Item
   pub gap : List Mark
@@ -138,13 +138,13 @@ has_token (line a b q ∷ items) = has_token items
 has_token (block a b q ∷ items) = has_token items
 has_token (token t a q ∷ items) = true
 
--- whether a line has ended since the last token, behind the items
-abbrev pub ended_behind : Bool → List Item → Bool
-ended_behind ended [] = ended
-ended_behind ended (blank m ∷ items) = ended_behind (ended_by ended m.character) items
-ended_behind ended (line a b q ∷ items) = ended_behind ended items
-ended_behind ended (block a b q ∷ items) = ended_behind (ended_in ended (chars q)) items
-ended_behind ended (token t a q ∷ items) = ended_behind false items
+-- whether a line has ended since the last token, after the items
+abbrev pub ended_after : Bool → List Item → Bool
+ended_after ended [] = ended
+ended_after ended (blank m ∷ items) = ended_after (ended_by ended m.character) items
+ended_after ended (line a b q ∷ items) = ended_after ended items
+ended_after ended (block a b q ∷ items) = ended_after (ended_in ended (chars q)) items
+ended_after ended (token t a q ∷ items) = ended_after false items
 
 -- a text is trivia, the token and the rest, which need have no tokens; a slash is read by the goal
 pub record IsNextToken (g : Goal) (u : List ℕ) (x : Lexeme) (rest : List ℕ) : Type 0 where
@@ -154,4 +154,4 @@ pub record IsNextToken (g : Goal) (u : List ℕ) (x : Lexeme) (rest : List ℕ) 
   pub spells : read_by g u ≡ text trivia (read_by g (token ++ rest))
   pub fits : Fit trivia (read_by g (token ++ rest)) g
   pub stands : Stands g x.token token rest
-  pub newline : x.newline ≡ ended_behind false trivia
+  pub newline : x.newline ≡ ended_after false trivia

@@ -25,8 +25,8 @@ IsToken g Set u = IsName u × (name_token u ≡ Set)
 IsToken g (AWord w) u = IsName u × (name_token u ≡ AWord w)
 IsToken g EscapedWord u = IsName u × (name_token u ≡ EscapedWord)
 
--- the character may not stand behind the token: behind a number no digit and nothing that begins a
--- name (7.8.3), behind a division nothing that makes the slash begin a comment (7.4)
+-- the character may not stand after the token: after a number no digit and nothing that begins a
+-- name (7.8.3), after a division nothing that makes the slash begin a comment (7.4)
 abbrev pub is_barred : Token → ℕ → Bool
 is_barred Number c = is_digit c || (is_start c || (c == reverse_solidus))
 is_barred (APunct Slash) c = (c == solidus) || (c == asterisk)

@@ -18,14 +18,14 @@ abbrev pub EndsLine : List ℕ → Type 0
 EndsLine [] = Unit {0}
 EndsLine (c ∷ rest) = is_line_end c ≡ true
 
--- MultiLineCommentChars and PostAsteriskCommentChars with the end of their comment: behind a `*` or
--- not, the first `/` that stands behind a `*` ends it
+-- MultiLineCommentChars and PostAsteriskCommentChars with the end of their comment: after a `*` or
+-- not, the first `/` that stands after a `*` ends it
 abbrev pub IsCommentRest : Bool → List ℕ → Type 0
 IsCommentRest star [] = ⊥
 IsCommentRest star (c ∷ u) =
     (((star && (c == solidus)) ≡ true) × (u ≡ []))
     ⊎ (((star && (c == solidus)) ≡ false) × IsCommentRest (c == asterisk) u)
 
--- what stands behind `/*`, the first `*/` included
+-- what stands after `/*`, the first `*/` included
 abbrev pub IsBlockComment : List ℕ → Type 0
 IsBlockComment u = IsCommentRest false u

@@ -85,7 +85,7 @@ impl Letters {
         }
     }
 
-    /// Follows a lexer from a state to the one behind the character.
+    /// Follows a lexer from a state to the one after the character.
     pub(crate) fn follow(&mut self, before: State, given: Option<Kind>, after: State, c: char)
         ensures { (goal : Goal) (read : List ℕ) → Leads before goal c given after → HeardAt self.old before (own before read) → HeardAt self.new after (own_after given (own before read) c) }
     {
@@ -107,7 +107,7 @@ impl Letters {
         self.read(Place::Name, c);
     }
 
-    /// The name goes on with the character behind the place.
+    /// The name goes on with the character after the place.
     fn read(&mut self, place: Place, c: char)
         ensures letters { self.new.letters.items ≡ with_letter self.old.letters.items (letter place c) }
         ensures escapes { self.new.escapes ≡ (self.old.escapes || ends_escape place) }
@@ -138,7 +138,7 @@ fn kept_letter(c: char) -> u8
     if c.is_ascii() { c as u8 } else { 0xFF }
 }
 
-/// The letter of a name that is whole with the character behind the place.
+/// The letter of a name that is whole with the character after the place.
 fn letter(place: Place, c: char) -> Option<char>
     ensures { result ≡ letter place c }
 {
@@ -158,7 +158,7 @@ fn plain_letter(c: char) -> Option<char>
     if c == '\\' { None } else { Some(c) }
 }
 
-/// Whether an escape is whole with the character behind the place.
+/// Whether an escape is whole with the character after the place.
 fn ends_escape(place: Place) -> bool
     ensures { result ≡ ends_escape place }
 {

@@ -1,7 +1,7 @@
 //! Tokens of a text that comes in pieces (ECMA-262 5.1, section 7).
 //!
 //! A [`Lexer`] is fed one character after another, each with the goal that the grammar of programs has
-//! then, and gives each token once the character behind it has come. It is of a fixed size: the state
+//! then, and gives each token once the character after it has come. It is of a fixed size: the state
 //! (`states`) has its place in a token, and of a name eleven letters are kept (`letters`).
 ghost use Rattle.std.specs.Prelude.{◌≡◌, ◌≤◌, ℕ, true, List, [], ◌∷◌, ◌++◌, length, take, IsTrue, ◌↔◌};
 ghost use Rattle.std.specs.List.{list_all, prefix_len};
@@ -88,7 +88,7 @@ impl Lexer {
         self.state.is_dead()
     }
 
-    /// How many bytes at the front of the piece are ASCII characters that leave the lexer as it is, under
+    /// How many bytes at the beginning of the piece are ASCII characters that leave the lexer as it is, under
     /// whatever goals, up to the first that isn't one: most of white space, comments, strings and long
     /// names. They have been read then without being fed.
     pub fn run_length(&self, piece: &[u8]) -> usize

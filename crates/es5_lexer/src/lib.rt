@@ -3,7 +3,7 @@
 //!
 //! The definitions in `specs/` follow the standard: `Characters`, `Trivia` and one file for each kind of
 //! token say what their texts are, `Tokens` where one stands, and `Texts` which tokens a text has, each
-//! slash read by the goal that came with the character behind it. Both forms go along places in a token
+//! slash read by the goal that came with the character after it. Both forms go along places in a token
 //! (`Places`, `PlaceResiduals`). [`next_token`] looks for the longest token of a slice and may go back; a [`Lexer`]
 //! never does, and stands between its characters in a state (`Residuals`, `Lexing`).
 #![tactic(auto)]

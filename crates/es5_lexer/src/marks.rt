@@ -1,4 +1,4 @@
-//! Punctuators (ECMA-262 5.1, section 7.7), a character at a time: each front of one is one.
+//! Punctuators (ECMA-262 5.1, section 7.7), a character at a time: each beginning of one is one.
 ghost use Rattle.std.specs.Prelude.{◌≡◌};
 ghost use Rattle.es5_lexer.specs.Places.{mark, longer, by_equals};
 

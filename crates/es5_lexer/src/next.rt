@@ -10,11 +10,11 @@ ghost use Rattle.es5_lexer.specs.declared.tokens.Goal.{Goal};
 use crate::letters::Letters;
 use crate::longest::{Longest, longest_token};
 use crate::places::Kind;
-use crate::slices::{behind, last};
+use crate::slices::{after, last};
 use crate::tokens::{Goal, Lexeme, Token};
 use crate::trivia::leading_trivium;
 
-/// The first token at or behind the place, and the place behind it, where a slash is read by the goal;
+/// The first token at or after the place, and the place after it, where a slash is read by the goal;
 /// `None` exactly where no token begins there, be it that only trivia are left.
 pub fn next_token(text: &[char], place: usize, goal: Goal) -> Option<(Lexeme, usize)>
     requires { place ≤ length text.now }
@@ -22,7 +22,7 @@ pub fn next_token(text: &[char], place: usize, goal: Goal) -> Option<(Lexeme, us
     ensures found { IfSome result (λ found. IsNextToken goal (drop place text.now) found.0 (drop found.1 text.now)) }
     ensures none { IfNone result ((x : Lexeme) (rest : List ℕ) → IsNextToken goal (drop place text.now) x rest → ⊥) }
 {
-    let (newline, rest) = behind_trivia(behind(text, place));
+    let (newline, rest) = after_trivia(after(text, place));
     let Some((token, left)) = token_at(rest, goal) else {
         return None;
     };
@@ -34,12 +34,12 @@ pub fn rest_is_trivia(text: &[char], place: usize) -> bool
     requires { place ≤ length text.now }
     ensures { (g : Goal) → IsTrue result ↔ Lexes (read_by g (drop place text.now)) g [] }
 {
-    let (_, rest) = behind_trivia(behind(text, place));
+    let (_, rest) = after_trivia(after(text, place));
     rest.is_empty()
 }
 
-/// What stands behind the trivia at the front, and whether a line has ended in them.
-fn behind_trivia(text: &[char]) -> (bool, &[char])
+/// What stands after the trivia at the beginning, and whether a line has ended in them.
+fn after_trivia(text: &[char]) -> (bool, &[char])
     ensures passes { Passes false text.now result.0 result.1.now }
     ensures ends { leading_trivium result.1.now ≡ None }
 {
@@ -54,16 +54,16 @@ fn behind_trivia(text: &[char]) -> (bool, &[char])
     (newline, rest)
 }
 
-/// The token at the front, and how many characters stand behind it.
+/// The token at the beginning, and how many characters stand after it.
 fn token_at(text: &[char], goal: Goal) -> Option<(Token, usize)>
     ensures value { result ≡ token_at goal text.now }
 {
     let Some(Longest { kind, left }) = longest_token(goal, text) else {
         return None;
     };
-    let (front, rest) = text.split_at(text.len() - left);
+    let (prefix, rest) = text.split_at(text.len() - left);
     if may_precede(kind, rest) {
-        Some((token_of(kind, front), left))
+        Some((token_of(kind, prefix), left))
     } else {
         None
     }

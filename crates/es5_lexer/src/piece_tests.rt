@@ -27,7 +27,7 @@ const SCRIPTS: [(&str, Goal, usize); 12] = [
 ];
 
 /// Texts whose characters, and whose end, come with goals of their own: each slash is read by the goal of the
-/// character behind it.
+/// character after it.
 const READINGS: [(&str, &[Goal], &[Token]); 8] = [
     ("a/b", &[R, R, D, R], &[Ident, Punct(P::Slash), Ident]),
     ("/a/", &[D, R, D, D], &[Pattern]),
@@ -59,7 +59,7 @@ const CUTS: [(&str, &[Token]); 8] = [
     ("/[/]\\//g\\u0069", &[Pattern]),
 ];
 
-/// Texts under a goal, and whether a lexer is dead behind them.
+/// Texts under a goal, and whether a lexer is dead after them.
 const DEATHS: [(&str, Goal, bool); 14] = [
     ("", D, false),
     ("\\uE", D, false),

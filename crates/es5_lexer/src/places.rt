@@ -9,10 +9,10 @@ ghost use Rattle.es5_lexer.specs.Tokens.{is_barred};
 ghost use Rattle.es5_lexer.specs.Reading.{token_of};
 ghost use Rattle.es5_lexer.specs.Characters.{is_hex, is_escape_of};
 ghost use Rattle.es5_lexer.specs.Strings.{quote_of};
-ghost use Rattle.es5_lexer.specs.Places.{set_of, is_dead, ended, before_escape, first, behind_slash, behind_mark, behind};
+ghost use Rattle.es5_lexer.specs.Places.{set_of, is_dead, ended, before_escape, first, past_slash, after_mark, after};
 ghost use Rattle.es5_lexer.specs.Places.{next, next_in_parts, next_in_escape, next_in_mark};
 ghost use Rattle.es5_lexer.specs.Places.{next_in_number, next_in_whole, next_in_exponent};
-ghost use Rattle.es5_lexer.specs.Places.{next_in_text, next_in_chars, behind_text_escape, fewer};
+ghost use Rattle.es5_lexer.specs.Places.{next_in_text, next_in_chars, after_text_escape, fewer};
 ghost use Rattle.es5_lexer.specs.Places.{next_in_pattern, next_in_body, next_in_class};
 
 use crate::characters::{
@@ -32,7 +32,7 @@ pub(crate) enum Kind {
     Pattern,
 }
 
-/// Behind the start of a token.
+/// After the start of a token.
 #[derive(Clone, Copy)]
 pub(crate) enum Place {
     /// A whole name.
@@ -78,11 +78,11 @@ pub(crate) enum NumberPlace {
     Zero,
     /// A digit of a whole part that doesn't begin with 0.
     Digit,
-    /// The point behind a whole part, or a digit behind the point.
+    /// The point after a whole part, or a digit after the point.
     Point,
     /// `e` or `E`.
     Exponent,
-    /// The sign behind it.
+    /// The sign after it.
     Sign,
     /// A digit of the exponent.
     ExponentDigit,
@@ -141,7 +141,7 @@ pub(crate) enum PatternPlace {
 }
 
 impl Place {
-    /// Behind the first character of a token, a slash read by the goal.
+    /// After the first character of a token, a slash read by the goal.
     pub(crate) fn first(goal: Goal, c: char) -> Place
         ensures { result ≡ first goal c }
     {
@@ -158,15 +158,15 @@ impl Place {
         } else if c == '\'' {
             Place::Text(Quote::Single, TextPlace::Chars)
         } else if c == '/' {
-            Place::behind_slash(goal)
+            Place::past_slash(goal)
         } else {
-            Place::behind_mark(mark(c))
+            Place::after_mark(mark(c))
         }
     }
 
-    /// Behind a slash that begins a token.
-    pub(crate) fn behind_slash(goal: Goal) -> Place
-        ensures { result ≡ behind_slash goal }
+    /// After a slash that begins a token.
+    pub(crate) fn past_slash(goal: Goal) -> Place
+        ensures { result ≡ past_slash goal }
     {
         if goal.is_div() {
             Place::Mark(Punct::Slash)
@@ -175,9 +175,9 @@ impl Place {
         }
     }
 
-    /// Behind a punctuator, if it is one.
-    fn behind_mark(p: Option<Punct>) -> Place
-        ensures { result ≡ behind_mark p }
+    /// After a punctuator, if it is one.
+    fn after_mark(p: Option<Punct>) -> Place
+        ensures { result ≡ after_mark p }
     {
         match p {
             Some(p) => Place::Mark(p),
@@ -185,7 +185,7 @@ impl Place {
         }
     }
 
-    /// Behind one character more.
+    /// After one character more.
     pub(crate) fn next(self, c: char) -> Place
         ensures { result ≡ next self c }
     {
@@ -235,7 +235,7 @@ impl Place {
 }
 
 impl Kind {
-    /// Whether the character may not stand behind a token of the kind.
+    /// Whether the character may not stand after a token of the kind.
     #[tactic(auto, using(crate::proofs::TokenLemmas::name_unbarred))]
     pub(crate) fn bars(self, c: char) -> bool
         ensures { (u : List ℕ) → result ≡ is_barred (token_of self u) c }
@@ -252,9 +252,9 @@ impl Kind {
 }
 
 impl Host {
-    /// Behind a whole character of it.
-    fn behind(self) -> Place
-        ensures { result ≡ behind self }
+    /// After a whole character of it.
+    fn after(self) -> Place
+        ensures { result ≡ after self }
     {
         match self {
             Host::FirstChar | Host::LaterChar => Place::Name,
@@ -274,12 +274,12 @@ impl Host {
     }
 }
 
-/// Behind name parts, and one character more.
+/// After name parts, and one character more.
 fn next_in_parts(host: Host, c: char) -> Place
     ensures { result ≡ next_in_parts host c }
 {
     if is_part(c) {
-        host.behind()
+        host.after()
     } else if c == '\\' {
         Place::Escape(host, Seen::EscapeMark)
     } else {
@@ -299,7 +299,7 @@ fn next_in_escape(host: Host, seen: Seen, c: char) -> Place
             host,
             Seen::ThreeDigits(a, b, digit(c)),
         ),
-        Seen::ThreeDigits(a, b, d) if host.takes_escape(a, b, d, c) => host.behind(),
+        Seen::ThreeDigits(a, b, d) if host.takes_escape(a, b, d, c) => host.after(),
         _ => Place::Dead,
     }
 }
@@ -312,7 +312,7 @@ fn digit(c: char) -> u8
     c as u8
 }
 
-/// Behind a punctuator, and one character more.
+/// After a punctuator, and one character more.
 fn next_in_mark(p: Punct, c: char) -> Place
     ensures { result ≡ next_in_mark p c }
 {
@@ -346,7 +346,7 @@ fn next_in_number(place: NumberPlace, c: char) -> Place
     }
 }
 
-/// Behind a whole part, and one character more that isn't of it.
+/// After a whole part, and one character more that isn't of it.
 fn next_in_whole(c: char) -> Place
     ensures { result ≡ next_in_whole c }
 {
@@ -357,7 +357,7 @@ fn next_in_whole(c: char) -> Place
     }
 }
 
-/// Behind a whole part and a fraction, and one character more that isn't of them.
+/// After a whole part and a fraction, and one character more that isn't of them.
 fn next_in_exponent(c: char) -> Place
     ensures { result ≡ next_in_exponent c }
 {
@@ -386,7 +386,7 @@ fn next_in_text(quote: Quote, place: TextPlace, c: char) -> Place
 {
     match place {
         TextPlace::Chars => next_in_chars(quote, c),
-        TextPlace::TextEscape => behind_text_escape(quote, c),
+        TextPlace::TextEscape => after_text_escape(quote, c),
         TextPlace::Cr if c == '\n' => Place::Text(quote, TextPlace::Chars),
         TextPlace::Cr => next_in_chars(quote, c),
         TextPlace::Hex(left) if is_hex(c) => Place::Text(quote, left.fewer()),
@@ -394,7 +394,7 @@ fn next_in_text(quote: Quote, place: TextPlace, c: char) -> Place
     }
 }
 
-/// Behind a whole character of a string, and one more.
+/// After a whole character of a string, and one more.
 fn next_in_chars(quote: Quote, c: char) -> Place
     ensures { result ≡ next_in_chars quote c }
 {
@@ -409,9 +409,9 @@ fn next_in_chars(quote: Quote, c: char) -> Place
     }
 }
 
-/// Behind a `\` in a string, and one character more.
-fn behind_text_escape(quote: Quote, c: char) -> Place
-    ensures { result ≡ behind_text_escape quote c }
+/// After a `\` in a string, and one character more.
+fn after_text_escape(quote: Quote, c: char) -> Place
+    ensures { result ≡ after_text_escape quote c }
 {
     let place = match c {
         'x' => TextPlace::Hex(Left::Two),
@@ -423,7 +423,7 @@ fn behind_text_escape(quote: Quote, c: char) -> Place
 }
 
 impl Left {
-    /// Behind one digit more.
+    /// After one digit more.
     fn fewer(self) -> TextPlace
         ensures { result ≡ fewer self }
     {

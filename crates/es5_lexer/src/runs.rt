@@ -29,7 +29,7 @@ pub(crate) fn staying(state: State, is_full: bool) -> &'static [bool; 256]
     }
 }
 
-/// In a comment of several lines, behind a `*` or not.
+/// In a comment of several lines, after a `*` or not.
 fn in_block(star: bool) -> &'static [bool; 256]
     ensures { (full : Bool) (c : ℕ) → c < 256 → is_in result.now c ≡ stays (State.BlockComment star) full c }
 {
@@ -79,7 +79,7 @@ fn in_text(quote: Quote, place: TextPlace) -> &'static [bool; 256]
     }
 }
 
-/// Behind a whole character of a string.
+/// After a whole character of a string.
 fn quoted(quote: Quote) -> &'static [bool; 256]
     ensures { (full : Bool) (c : ℕ) → c < 256 → is_in result.now c ≡ stays (State.Token (Place.Text quote TextPlace.Chars)) full c }
 {

@@ -1,4 +1,4 @@
-//! Parts of a text, behind a place or counted from its end.
+//! Parts of a text, after a place or counted from its end.
 ghost use Rattle.std.specs.Prelude.{◌≡◌, ◌≤◌, drop, length};
 ghost use Rattle.es5_lexer.specs.Reading.{last};
 
@@ -11,7 +11,7 @@ pub(crate) fn last(text: &[char], count: usize) -> &[char]
 }
 
 /// The text from the place on.
-pub(crate) fn behind(text: &[char], place: usize) -> &[char]
+pub(crate) fn after(text: &[char], place: usize) -> &[char]
     requires { place ≤ length text.now }
     ensures { result.now ≡ drop place text.now }
 {

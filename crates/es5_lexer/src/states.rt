@@ -1,7 +1,7 @@
 //! Where a lexer stands that is fed characters (ECMA-262 5.1, section 7).
 //!
-//! A token goes on as long as it can, so the character behind it ends it; that character then begins
-//! what follows. A slash is kept until the character behind it comes: only then it is known whether
+//! A token goes on as long as it can, so the character after it ends it; that character then begins
+//! what follows. A slash is kept until the character after it comes: only then it is known whether
 //! a comment begins, and how the grammar of programs wants the slash read.
 ghost use Rattle.std.specs.Prelude.{◌≡◌, ℕ, List, ◌==◌, ◌&&◌, Bool, true, false, is_some};
 ghost use Rattle.es5_lexer.specs.Texts.{ended_by};
@@ -17,11 +17,11 @@ use crate::tokens::Goal;
 pub(crate) enum State {
     /// Between tokens and comments.
     Start,
-    /// Behind a slash that may begin a comment, a regular expression or a division.
+    /// After a slash that may begin a comment, a regular expression or a division.
     Slash,
     /// In a comment of one line.
     LineComment,
-    /// In a comment of several lines, behind a `*` or not.
+    /// In a comment of several lines, after a `*` or not.
     BlockComment(bool),
     /// In a token, or where none begins.
     Token(Place),
@@ -32,14 +32,14 @@ pub(crate) enum State {
 pub(crate) struct Step {
     /// The token that has ended before it.
     pub(crate) given: Option<Kind>,
-    /// Where the lexer stands behind it.
+    /// Where the lexer stands after it.
     pub(crate) state: State,
     /// Whether a line has ended since the last token.
     pub(crate) newline: bool,
 }
 
 impl State {
-    /// Behind one character more.
+    /// After one character more.
     pub(crate) fn step(self, newline: bool, goal: Goal, c: char) -> Step
         ensures steps { (read : List ℕ) → Steps self read newline goal c result.given result.state result.newline }
         ensures leads { Leads self goal c result.given result.state }
@@ -53,7 +53,7 @@ impl State {
                     newline,
                 }
             }
-            State::Slash => behind_slash(newline, goal, c),
+            State::Slash => past_slash(newline, goal, c),
             State::LineComment => in_line(newline, goal, c),
             State::BlockComment(star) => in_block(star, newline, goal, c),
             State::Token(place) => in_token(place, newline, goal, c),
@@ -69,7 +69,7 @@ impl State {
             State::Start => (true, None),
             State::LineComment => (true, None),
             State::BlockComment(_) => (false, None),
-            State::Slash => end_of_token(Place::behind_slash(goal)),
+            State::Slash => end_of_token(Place::past_slash(goal)),
             State::Token(place) => end_of_token(place),
         }
     }
@@ -92,7 +92,7 @@ impl State {
     }
 }
 
-/// Behind a character that ends no token and is in none: where the lexer stands, and whether a line has
+/// After a character that ends no token and is in none: where the lexer stands, and whether a line has
 /// ended.
 fn begin(newline: bool, goal: Goal, c: char) -> (State, bool)
     ensures steps { (read : List ℕ) → Steps State.Start read newline goal c None result.0 result.1 }
@@ -109,8 +109,8 @@ fn begin(newline: bool, goal: Goal, c: char) -> (State, bool)
     }
 }
 
-/// Behind a slash and one character more.
-fn behind_slash(newline: bool, goal: Goal, c: char) -> Step
+/// After a slash and one character more.
+fn past_slash(newline: bool, goal: Goal, c: char) -> Step
     ensures steps { (read : List ℕ) → Steps State.Slash read newline goal c result.given result.state result.newline }
     ensures leads { Leads State.Slash goal c result.given result.state }
 {
@@ -127,7 +127,7 @@ fn behind_slash(newline: bool, goal: Goal, c: char) -> Step
             newline,
         }
     } else {
-        in_token(Place::behind_slash(goal), newline, goal, c)
+        in_token(Place::past_slash(goal), newline, goal, c)
     }
 }
 
@@ -190,14 +190,14 @@ fn in_token(place: Place, newline: bool, goal: Goal, c: char) -> Step
     if !next.is_dead() {
         between(State::Token(next), newline)
     } else if let Some(kind) = place.ended() {
-        behind_token(kind, place, newline, goal, c)
+        past_token(kind, place, newline, goal, c)
     } else {
         dead(place.before_escape())
     }
 }
 
-/// Behind a whole token that doesn't go on by the character.
-fn behind_token(kind: Kind, place: Place, newline: bool, goal: Goal, c: char) -> Step
+/// After a whole token that doesn't go on by the character.
+fn past_token(kind: Kind, place: Place, newline: bool, goal: Goal, c: char) -> Step
     requires ended { ended place ≡ Some kind }
     requires dead { is_dead (next place c) ≡ true }
     ensures steps { (read : List ℕ) → Steps (State.Token place) read newline goal c result.given result.state result.newline }
@@ -215,7 +215,7 @@ fn behind_token(kind: Kind, place: Place, newline: bool, goal: Goal, c: char) ->
     }
 }
 
-/// Where no token begins, behind the last one.
+/// Where no token begins, after the last one.
 fn dead(given: Option<Kind>) -> Step
     ensures { result ≡ record { given = given; state = State.Token Place.Dead; newline = false } }
 {

@@ -316,7 +316,7 @@ pub(crate) const MATCHING: [(&str, &[Token]); 22] = [
     ("/a/ in b", &[Pattern, Word(W::In), Ident]),
 ];
 
-/// Texts that have no token behind these, and more than trivia: slashes are divisions.
+/// Texts that have no token after these, and more than trivia: slashes are divisions.
 pub(crate) const DIVIDING_STOPS: [(&str, &[Token]); 37] = [
     ("08", &[]),
     ("09.5", &[]),

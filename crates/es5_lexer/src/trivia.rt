@@ -1,19 +1,19 @@
 //! White space, line terminators and comments (ECMA-262 5.1, sections 7.2, 7.3 and 7.4).
 ghost use Rattle.std.specs.Prelude.{◌≡◌, ◌<◌, ◌≤◌, Some, None, MatchOption, IfSome, length, false};
-ghost use Rattle.es5_lexer.specs.Reading.{leading_trivium, comment, behind_line, block_comment, Passes};
+ghost use Rattle.es5_lexer.specs.Reading.{leading_trivium, comment, past_line, block_comment, Passes};
 
 use crate::characters::{is_line_end, is_space};
 
-/// White space, a line terminator or a comment at the front of a text.
+/// White space, a line terminator or a comment at the beginning of a text.
 #[derive(Clone, Copy)]
 pub(crate) struct Trivium {
     /// Whether it holds a line terminator.
     pub(crate) ends_line: bool,
-    /// How many characters of the text stand behind it.
+    /// How many characters of the text stand after it.
     pub(crate) left: usize,
 }
 
-/// What stands at the front of the text, if it is no token.
+/// What stands at the beginning of the text, if it is no token.
 pub(crate) fn leading_trivium(text: &[char]) -> Option<Trivium>
     ensures value { result ≡ leading_trivium text.now }
 {
@@ -35,7 +35,7 @@ pub(crate) fn leading_trivium(text: &[char]) -> Option<Trivium>
     }
 }
 
-/// A comment, behind its first `/`.
+/// A comment, after its first `/`.
 fn comment(text: &[char]) -> Option<Trivium>
     ensures { result ≡ comment text.now }
 {
@@ -43,7 +43,7 @@ fn comment(text: &[char]) -> Option<Trivium>
     if *c == '/' {
         Some(Trivium {
             ends_line: false,
-            left: behind_line(rest).len(),
+            left: past_line(rest).len(),
         })
     } else if *c == '*' {
         block_comment(rest)
@@ -52,9 +52,9 @@ fn comment(text: &[char]) -> Option<Trivium>
     }
 }
 
-/// Behind the rest of a line.
-fn behind_line(text: &[char]) -> &[char]
-    ensures { result.now ≡ behind_line text.now }
+/// After the rest of a line.
+fn past_line(text: &[char]) -> &[char]
+    ensures { result.now ≡ past_line text.now }
 {
     let mut rest = text;
     'line: while let [c, others @ ..] = rest
@@ -65,7 +65,7 @@ fn behind_line(text: &[char]) -> &[char]
     rest
 }
 
-/// A comment of several lines, behind its `/*`.
+/// A comment of several lines, after its `/*`.
 fn block_comment(text: &[char]) -> Option<Trivium>
     ensures { result ≡ block_comment false false text.now }
 {

@@ -34,7 +34,7 @@ use Rattle.es5_machine.proofs.Moves.{on, on_between, is_closing, by_close, decla
 use Rattle.es5_machine.proofs.Fits.{holds_statements, holds_expression, holds, holds_role, is_object, is_names, is_many, is_clauses, is_lacking, owned, below, is_opened, fits, Stacked, Fits, role_holds, object_holds, clauses_hold}
 
 -- what may end a script over a frame: where a statement has ended, and where what the frame on top ends
--- has; over parentheses of names, behind the `(` and behind a name
+-- has; over parentheses of names, after the `(` and after a name
 pub record Closing : Type 0 where
   pub statement : List Lexeme
   pub frame : List Lexeme
@@ -107,7 +107,7 @@ abbrev closings : List Frame → Closing
 closings [] = record { statement = []; frame = [] }
 closings (f ∷ fs) = closing f (closings fs)
 
--- behind the bracket that opens a frame
+-- after the bracket that opens a frame
 abbrev opened_rest : Frame → Closing → List Lexeme
 opened_rest (Head Init) c = (closing (Head Init) c).frame
 opened_rest (Head p) c = a_name ∷ (closing (Head p) c).frame
@@ -160,7 +160,7 @@ takes_one c fs x w a is takes_it stay k = (on c fs x w a is takes_it stay (k, re
 takes_between : (fs : List Frame) (x : Lexeme) (w : List Lexeme) (a : Answer) → without_branches fs ≡ fs → steps.between (top_of fs) x.token ≡ a → refuses a ≡ false → Accepted (moved a fs).config w → Accepted (at Between fs) (x ∷ w)
 takes_between fs x w a whole is takes_it k = (on_between fs x w a whole is takes_it (k, refl)).0
 
--- behind an expression or a name the list is accepted
+-- after an expression or a name the list is accepted
 record ExpressionEnds (e : Ends) (fs : List Frame) (w : List Lexeme) : Type 0 where
   pub left : (r : Role) → Accepted (at (AfterLeft r e) fs) w
   pub update : Accepted (at (AfterUpdate e) fs) w
@@ -224,7 +224,7 @@ block_ends TryBlock fs c h = try_closes fs (closings fs).statement (c.statement 
 block_ends CatchBlock fs c h = catch_closes fs (closings fs).statement (c.statement h)
 block_ends FinallyBlock fs c h = c.statement h
 
--- behind the parentheses of names
+-- after the parentheses of names
 names_body : (o : Owner) (fs : List Frame) → Closed fs → owned o (top_of fs) ≡ true → Accepted (at (Open (steps.body_of o)) fs) (braces_then (body_rest o (closings fs)))
 names_body Declaration fs c h = body_closes Declaration fs (body_rest Declaration (closings fs)) (body_ends Declaration fs c h)
 names_body (Expression r e) fs c h = body_closes (Expression r e) fs (body_rest (Expression r e) (closings fs)) (body_ends (Expression r e) fs c h)

@@ -1,5 +1,5 @@
 -- Each program is accepted, and its tokens stand as deep as the depths of its tree say: a clause for each
--- clause of the spelling, from what is accepted behind a tree to what is accepted before it.
+-- clause of the spelling, from what is accepted after a tree to what is accepted before it.
 use Rattle.std.proofs.Common.{◌≡◌, ℕ, suc, Bool, true, false, not, ◌&&◌, if◌then◌else◌, Some, List, [], ◌∷◌, length, refl, sym, ap, subst}
 use Rattle.es5_lexer.specs.declared.tokens.Word.{Word}
 use Rattle.es5_lexer.specs.declared.tokens.Word.TheVariants.{New as NewWord, Function as FunctionWord, Var, If as IfWord, Else, Do as DoWord, While, With, For, In, Continue, Break, Return, Throw, Debugger, Switch as SwitchWord, Case, Default, Try as TryWord, Catch as CatchWord, Finally as FinallyWord}
@@ -94,7 +94,7 @@ array_end (n ∷ ns) k r e fs c w h =
     by_close k ByFrame (Array r e ∷ fs) Comma n (commas ns (mark RightBracket c ∷ w)) refl refl
     (takes (elisions_go ns r e fs (mark RightBracket c ∷ w) (array_close r e fs c w h)))
 
--- behind a property the rest is accepted
+-- after a property the rest is accepted
 record PropEnds (r : Role) (e : Ends) (fs : List Frame) (w : List Lexeme) (hs : List ℕ) : Type 0 where
   pub goes : (k : Ending) → Goes k ByFrame (Object r e ∷ fs) w hs
   pub whole : Accepts (at AfterAccessor (Object r e ∷ fs)) w hs
@@ -166,7 +166,7 @@ default_goes p fs d n w is k =
     on_between (Clauses p ∷ fs) (word Default d) (mark Colon n ∷ w) (Swap (Clauses Defaulted) AfterDefault) refl is refl
     (takes (on AfterDefault (Clauses Defaulted ∷ fs) (mark Colon n) w (Go Between) refl refl refl (takes k)))
 
--- trees: from what is accepted behind to what is accepted before
+-- trees: from what is accepted after to what is accepted before
 
 mutual
   unfolding TakesDecls TakesFunction

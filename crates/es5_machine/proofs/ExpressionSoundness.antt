@@ -1,4 +1,4 @@
--- What may follow where an expression is under way, token by token: where the rest may follow behind the
+-- What may follow where an expression is under way, token by token: where the rest may follow after the
 -- machine's answer, the token and the rest may follow before it.
 use Rattle.std.proofs.Common.{◌≡◌, Bool, true, false, ◌&&◌, if◌then◌else◌, List, [], ◌∷◌, refl, sym, subst}
 use Rattle.es5_lexer.specs.declared.tokens.Word.{Word}
@@ -112,7 +112,7 @@ by_unary : (r : Role) (e : Ends) (fs : List Frame) (w : List Lexeme) → UnaryRe
 by_unary r e fs w k h g =
     lift r e fs (head_text h w) (subst (λ (v : List Lexeme). ChainThen (in_stands e (top_of fs)) (λ j u. EndedRest e fs j u) v) (left_of_text h w) (k (unmarked (left (left_of h))) refl (left_of_good h w g)))
 
--- behind which its expression ends
+-- after which its expression ends
 
 by_end : (k : Ending) (e : Ends) (fs : List Frame) (w : List Lexeme) → EndedRest e fs k w → UnaryRest k e fs w
 by_end k e fs w h u is g =
@@ -257,7 +257,7 @@ close_back ByDeclaration fs k (APunct Comma) n w m = decls_on n w m
 close_back ByDeclaration fs k (APunct Semicolon) n w m = decls_ends (mark Semicolon n ∷ w) (semicolon_ends fs k n w m)
 close_back ByDeclaration fs k _ n w m = absurd m
 
--- behind a UnaryExpression
+-- after a UnaryExpression
 
 operator_back : (k : Ending) (e : Ends) (fs : List Frame) (x : Lexeme) (w : List Lexeme) → steps.is_operator e (top_of fs) x.token ≡ true → Region Plain e fs w → UnaryRest k e fs (x ∷ w)
 operator_back k e fs x _ is (chain_then v tail rest gv gt c) u ends g =
@@ -271,19 +271,19 @@ question_back : (k : Ending) (e : Ends) (fs : List Frame) (t : Token) (n : Bool)
 question_back k e fs (APunct Question) n w is m = choice_back k e fs n w m
 question_back k e fs _ n w is m = absurd (differ is)
 
-behind_back : (P : Type 0) (k : Ending) (r : Role) (e : Ends) (fs : List Frame) (t : Token) (n : Bool) (w : List Lexeme) → Means (steps.behind r e (top_of fs) t) fs w → (UnaryRest k e fs (lexeme t n ∷ w) → P) → (Means (steps.last r e (top_of fs) t) fs w → P) → P
-behind_back P k r e fs t n w m goes stops = by (steps.is_operator e (top_of fs) t) (is_question t) refl refl m
+after_back : (P : Type 0) (k : Ending) (r : Role) (e : Ends) (fs : List Frame) (t : Token) (n : Bool) (w : List Lexeme) → Means (steps.after r e (top_of fs) t) fs w → (UnaryRest k e fs (lexeme t n ∷ w) → P) → (Means (steps.last r e (top_of fs) t) fs w → P) → P
+after_back P k r e fs t n w m goes stops = by (steps.is_operator e (top_of fs) t) (is_question t) refl refl m
   where
     by : (a b : Bool) → steps.is_operator e (top_of fs) t ≡ a → is_question t ≡ b → Means (if a then Go (Operand Plain e) else if b then Push (Conditional e) inside else steps.last r e (top_of fs) t) fs w → P
     by true b is q c = goes (operator_back k e fs (lexeme t n) w is c)
     by false true is q c = goes (question_back k e fs t n w q c)
     by false false is q c = stops c
 
-pub update_back : (e : Ends) (fs : List Frame) (t : Token) (n : Bool) (w : List Lexeme) → Means (steps.behind Plain e (top_of fs) t) fs w → UnaryRest after_update e fs (lexeme t n ∷ w)
+pub update_back : (e : Ends) (fs : List Frame) (t : Token) (n : Bool) (w : List Lexeme) → Means (steps.after Plain e (top_of fs) t) fs w → UnaryRest after_update e fs (lexeme t n ∷ w)
 update_back e fs t n w m =
-    behind_back (UnaryRest after_update e fs (lexeme t n ∷ w)) after_update Plain e fs t n w m (λ k. k) (λ c. by_end after_update e fs (lexeme t n ∷ w) (close_back e fs after_update t n w c))
+    after_back (UnaryRest after_update e fs (lexeme t n ∷ w)) after_update Plain e fs t n w m (λ k. k) (λ c. by_end after_update e fs (lexeme t n ∷ w) (close_back e fs after_update t n w c))
 
--- behind a LeftHandSideExpression
+-- after a LeftHandSideExpression
 
 in_header_back : (e : Ends) (fs : List Frame) (n : Bool) (w : List Lexeme) → Rest inside (Head Loop ∷ popped fs) w → LeftRest Header e fs (word In n ∷ w)
 in_header_back ByFrame [] n w m h g = tt
@@ -297,9 +297,9 @@ last_back : (r : Role) (e : Ends) (fs : List Frame) (t : Token) (n : Bool) (w : 
 last_back Header e fs (AWord In) n w m = in_header_back e fs n w m
 last_back r e fs t n w m = left_ends r e fs (lexeme t n ∷ w) (close_back e fs after_operand t n w m)
 
-goes_back : (r : Role) (e : Ends) (fs : List Frame) (t : Token) (n : Bool) (w : List Lexeme) → Means (steps.behind r e (top_of fs) t) fs w → LeftRest r e fs (lexeme t n ∷ w)
+goes_back : (r : Role) (e : Ends) (fs : List Frame) (t : Token) (n : Bool) (w : List Lexeme) → Means (steps.after r e (top_of fs) t) fs w → LeftRest r e fs (lexeme t n ∷ w)
 goes_back r e fs t n w m =
-    behind_back (LeftRest r e fs (lexeme t n ∷ w)) after_operand r e fs t n w m (by_unary r e fs (lexeme t n ∷ w)) (last_back r e fs t n w)
+    after_back (LeftRest r e fs (lexeme t n ∷ w)) after_operand r e fs t n w m (by_unary r e fs (lexeme t n ∷ w)) (last_back r e fs t n w)
 
 assign_back : (e : Ends) (fs : List Frame) (p : Punct) (n : Bool) (w : List Lexeme) → is_assign p ≡ true → Region Target e fs w → (h : HeadOfLeft) → GoodHead h (mark p n ∷ w) → AssignThen (in_stands e (top_of fs)) (λ k v. EndedRest e fs k v) (head_text h (mark p n ∷ w))
 assign_back e fs p n _ is (assign_then a rest ga k) h g =

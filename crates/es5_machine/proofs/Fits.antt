@@ -275,8 +275,8 @@ last_keeps r e top t h = by (steps.ends_header r t) refl
     by true s = header_keeps r e top t s h
     by false s = close_keeps e top t (role_holds r e top h)
 
-behind_keeps : (r : Role) (e : Ends) (top : Option Frame) (t : Token) → holds_role r e top ≡ true → Keeps (steps.behind r e top t) top
-behind_keeps r e top t h = by (steps.is_operator e top t) (is_question t)
+after_keeps : (r : Role) (e : Ends) (top : Option Frame) (t : Token) → holds_role r e top ≡ true → Keeps (steps.after r e top t) top
+after_keeps r e top t h = by (steps.is_operator e top t) (is_question t)
   where
     by : (a b : Bool) → Keeps (if a then Go (Operand Plain e) else if b then Push (Conditional e) inside else steps.last r e top t) top
     by true b = role_holds r e top h
@@ -296,7 +296,7 @@ suffix_keeps : (r : Role) (e : Ends) (top : Option Frame) (p : Punct) → holds_
 suffix_keeps r e top Dot h = h
 suffix_keeps r e top LeftBracket h = (h, refl)
 suffix_keeps r e top LeftParen h = (h, refl)
-suffix_keeps r e top p h = behind_keeps r e top (APunct p) h
+suffix_keeps r e top p h = after_keeps r e top (APunct p) h
 
 left_mark_keeps : (r : Role) (e : Ends) (top : Option Frame) (p : Punct) (n : Bool) → holds_role r e top ≡ true → Keeps (steps.left_mark r e top p n) top
 left_mark_keeps r e top p n h = by (is_update p) (is_assign p)
@@ -308,9 +308,9 @@ left_mark_keeps r e top p n h = by (is_update p) (is_assign p)
 
 left_keeps : (r : Role) (e : Ends) (top : Option Frame) (t : Token) (n : Bool) → holds_role r e top ≡ true → Keeps (steps.left r e top t n) top
 left_keeps r e top (APunct p) n h = left_mark_keeps r e top p n h
-left_keeps r e top t n h = behind_keeps r e top t h
+left_keeps r e top t n h = after_keeps r e top t h
 
--- an answer behind a test
+-- an answer after a test
 go_keeps : (b : Bool) (c : Control) (top : Option Frame) → fits c top ≡ true → Keeps (if b then Go c else Refuse) top
 go_keeps true c top h = h
 go_keeps false c top h = tt
@@ -586,7 +586,7 @@ consume_keeps (Callee r e) top t n h = callee_keeps r e top t h
 consume_keeps (AfterLeft r e) top t n h = left_keeps r e top t n h
 consume_keeps AfterName top t n h = after_name_keeps top t n h
 consume_keeps (AfterDot r e) top t n h = go_keeps (is_name t) (AfterLeft r e) top h
-consume_keeps (AfterUpdate e) top t n h = behind_keeps Plain e top t h
+consume_keeps (AfterUpdate e) top t n h = after_keeps Plain e top t h
 consume_keeps AfterAccessor top t n h = close_keeps ByFrame top t (object_holds top h)
 consume_keeps MayLack top t n h = may_lack_keeps top t h
 consume_keeps Properties top t n h = properties_keeps top t h

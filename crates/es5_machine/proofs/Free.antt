@@ -61,7 +61,7 @@ Accepted v w = accepts (run v w) ≡ true
 abbrev pub Accepts : Config → List Lexeme → List ℕ → Type 0
 Accepts v w ds = Accepted v w × (heights v w ≡ ds)
 
--- the same behind a token, whose depth comes first
+-- the same after a token, whose depth comes first
 abbrev pub Taken : Move → List Lexeme → List ℕ → Type 0
 Taken m w ds = Accepted m.config w × (m.depth ∷ heights m.config w ≡ ds)
 

@@ -1,5 +1,5 @@
 -- What the machine takes: states at the tokens that go on, closing tokens, semicolons that are left out, and
--- tokens that nothing takes. A lemma says what is accepted in front of what is accepted behind, and how deep
+-- tokens that nothing takes. A lemma says what is accepted before what is accepted after, and how deep
 -- its tokens stand.
 use Rattle.std.proofs.Common.{◌≡◌, ℕ, suc, ◌≤◌, Bool, true, false, not, ◌&&◌, ◌||◌, if◌then◌else◌, Option, Some, None, List, [], ◌∷◌, length, refl, sym, ap, subst, ◌∙◌}
 use Rattle.es5_lexer.specs.declared.tokens.Word.TheVariants.{Function as FunctionWord, Var, If as IfWord, Else, Do as DoWord, While, With, For, In, Continue, Break, Return, Throw, Debugger, Switch as SwitchWord, Case, Default, Try as TryWord, Finally as FinallyWord, This}
@@ -46,7 +46,7 @@ implied : (a b : Bool) → not a || b ≡ true → a ≡ true → b ≡ true
 implied a true h is = refl
 implied a false h is = sym (ap (λ x. not x || false) is) ∙ h
 
--- one token more in front of both lists
+-- one token more before both lists
 pub takes : {A : Type 0} {d : ℕ} {hs ds : List ℕ} → A × (hs ≡ ds) → A × (d ∷ hs ≡ d ∷ ds)
 takes {A} {d} h = (h.0, ap (λ ns. d ∷ ns) h.1)
 
@@ -115,7 +115,7 @@ alike {ds} c d fs x w none lc ld same k = by (refuses (steps.consume c (top_of f
     by true r = absurd (refused (steps.consume c (top_of fs) x.token x.newline) fs w r there.0)
     by false r = on d fs x w (steps.consume c (top_of fs) x.token x.newline) (same r) r ld there
 
--- tokens behind an operand
+-- tokens after an operand
 
 no_header_mark : (r : Role) (p : Punct) → steps.ends_header r (APunct p) ≡ false
 no_header_mark Plain p = refl
@@ -144,7 +144,7 @@ closing_left r e top Comma n h = last_mark r e top Comma
 closing_left r e top Semicolon n h = last_mark r e top Semicolon
 closing_left r e top _ n h = absurd (differ h)
 
-closing_update : (e : Ends) (top : Option Frame) (p : Punct) → is_closing p ≡ true → steps.behind Plain e top (APunct p) ≡ steps.close e top (APunct p)
+closing_update : (e : Ends) (top : Option Frame) (p : Punct) → is_closing p ≡ true → steps.after Plain e top (APunct p) ≡ steps.close e top (APunct p)
 closing_update e top RightParen h = refl
 closing_update e top RightBracket h = refl
 closing_update e top RightBrace h = refl
@@ -153,7 +153,7 @@ closing_update e top Comma h = refl
 closing_update e top Semicolon h = refl
 closing_update e top _ h = absurd (differ h)
 
--- behind an expression that ended so, the rest is accepted, and stands so deep
+-- after an expression that ended so, the rest is accepted, and stands so deep
 abbrev pub GoesBy : Ending → Ends → List Frame → List Lexeme → List ℕ → Type 0
 GoesBy after_operand e fs w ds = (r : Role) → Accepts (at (AfterLeft r e) fs) w ds
 GoesBy after_update e fs w ds = Accepts (at (AfterUpdate e) fs) w ds
@@ -189,13 +189,13 @@ binary_no_assign : (p : Punct) → not (is_binary (APunct p)) || not (is_assign 
 binary_no_assign Equals = refl
 binary_no_assign _ = refl
 
-suffix_operator : (r : Role) (e : Ends) (top : Option Frame) (p : Punct) → is_binary (APunct p) ≡ true → steps.suffix r e top p ≡ steps.behind r e top (APunct p)
+suffix_operator : (r : Role) (e : Ends) (top : Option Frame) (p : Punct) → is_binary (APunct p) ≡ true → steps.suffix r e top p ≡ steps.after r e top (APunct p)
 suffix_operator r e top Dot h = absurd (differ h)
 suffix_operator r e top LeftBracket h = absurd (differ h)
 suffix_operator r e top LeftParen h = absurd (differ h)
 suffix_operator r e top _ h = refl
 
-binary_left : (r : Role) (e : Ends) (top : Option Frame) (t : Token) (n : Bool) → is_binary t ≡ true → steps.left r e top t n ≡ steps.behind r e top t
+binary_left : (r : Role) (e : Ends) (top : Option Frame) (t : Token) (n : Bool) → is_binary t ≡ true → steps.left r e top t n ≡ steps.after r e top t
 binary_left r e top (APunct p) n h =
     ap (λ b. if b then steps.updated e n else if is_assign p then steps.assigned r e else steps.suffix r e top p) (excludes (is_binary (APunct p)) (is_update p) (binary_no_update p) h)
     ∙ ap (λ b. if b then steps.assigned r e else steps.suffix r e top p) (excludes (is_binary (APunct p)) (is_assign p) (binary_no_assign p) h)
@@ -206,7 +206,7 @@ pub both : (a b : Bool) → a ≡ true → b ≡ true → a && b ≡ true
 both true b h k = k
 both false b h k = h
 
-operator_takes : (r : Role) (e : Ends) (top : Option Frame) (t : Token) → steps.is_operator e top t ≡ true → steps.behind r e top t ≡ Go (Operand Plain e)
+operator_takes : (r : Role) (e : Ends) (top : Option Frame) (t : Token) → steps.is_operator e top t ≡ true → steps.after r e top t ≡ Go (Operand Plain e)
 operator_takes r e top t h =
     ap (λ b. if b then Go (Operand Plain e) else if is_question t then Push (Conditional e) inside else steps.last r e top t) h
 
@@ -255,7 +255,7 @@ by_update r e fs p w is h =
     (ap (λ b. if b then steps.updated e false else if is_assign p then steps.assigned r e else steps.suffix r e (top_of fs) p) is)
     refl refl (takes h)
 
--- where an operand begins: anywhere, or behind `new`
+-- where an operand begins: anywhere, or after `new`
 abbrev pub starts : Bool → Role → Ends → Control
 starts true r e = Callee r e
 starts false r e = Operand r e
@@ -282,7 +282,7 @@ pub prefix_begins : {ds : List ℕ} (r : Role) (e : Ends) (fs : List Frame) (x :
 prefix_begins r e fs x w is k =
     on (Operand r e) fs x w (Go (Operand Plain e)) (ap (λ a. if a then Go (Operand Plain e) else steps.callee r e x.token) is) refl refl (takes k)
 
--- a token with a test in front of what the state does
+-- a token with a test before what the state does
 pub tested : {ds : List ℕ} (c d : Control) (fs : List Frame) (x : Lexeme) (w : List Lexeme) (b : Bool) (other : Answer) → (if b then Go d else other) ≡ steps.consume c (top_of fs) x.token x.newline → b ≡ true → leaves c x.token ≡ false → Accepts (at d fs) w ds → Accepts (at c fs) (x ∷ w) (length fs ∷ ds)
 tested c d fs x w b other same is leaves_none k =
     on c fs x w (Go d) (sym same ∙ ap (λ a. if a then Go d else other) is) refl leaves_none (takes k)
@@ -418,7 +418,7 @@ finally_refused (Clauses InClause ∷ gs) = refl
 finally_refused (Clauses Defaulted ∷ gs) = refl
 finally_refused (_ ∷ gs) = refl
 
--- behind a `catch` a statement has ended, too
+-- after a `catch` a statement has ended, too
 pub catch_ends : {ds : List ℕ} (fs : List Frame) (w : List Lexeme) → Accepts (at Between fs) w ds → Accepts (at AfterCatch fs) w ds
 catch_ends fs [] k = k
 catch_ends {ds} fs (x ∷ w) k = by x.token k
@@ -529,7 +529,7 @@ end_goes after_update fs omitted w h a = record { by = omit_goes (AfterUpdate By
 end_goes after_name fs omitted w h a = record { by = tt }
 end_goes after_word fs omitted w h a = record { by = tt }
 
--- behind a declaration that ended so
+-- after a declaration that ended so
 abbrev pub GoesDeclBy : Ending → Ends → List Frame → List Lexeme → List ℕ → Type 0
 GoesDeclBy after_name e fs w ds = Accepts (at (Bound e) fs) w ds
 GoesDeclBy k e fs w ds = Goes k e fs w ds
@@ -588,7 +588,7 @@ declared_ends after_update fs omitted w h a = record { by = record { by = omit_g
 declared_ends after_name fs omitted w h a = record { by = omit_goes (Bound ByDeclaration) ByName fs w refl refl (λ x. bound_declaration (top_of fs) x.token x.newline) h a }
 declared_ends after_word fs omitted w h a = record { by = record { by = tt } }
 
--- `in` behind the one declaration of a header
+-- `in` after the one declaration of a header
 pub declared_in : {ds : List ℕ} (k : Ending) (fs : List Frame) (n : Bool) (w : List Lexeme) → Accepts (at inside (Head Loop ∷ fs)) w ds → GoesDecl k ByFrame (Head First ∷ fs) (word In n ∷ w) (suc (length fs) ∷ ds)
 declared_in after_operand fs n w k = record { by = record { by = in_left fs n w k } }
   where
@@ -616,7 +616,7 @@ return_end_goes fs t w h a = word_ends AfterReturn fs t w refl refl refl (λ n. 
 
 -- an expression that begins a statement
 
--- behind the identifier that begins it no colon comes, so it is no label
+-- after the identifier that begins it no colon comes, so it is no label
 name_goes : {ds : List ℕ} (fs : List Frame) (w : List Lexeme) → Accepts (at (AfterLeft Target BySemicolon) fs) w ds → Accepts (at AfterName fs) w ds
 name_goes fs [] k = k
 name_goes {ds} fs (x ∷ w) k = by x.token x.newline k

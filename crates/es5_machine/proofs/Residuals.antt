@@ -47,7 +47,7 @@ pub data IdentThen (K : List Lexeme → Type 0) : List Lexeme → Type 0 where
 pub data AssignThen (i : Bool) (K : Ending → List Lexeme → Type 0) : List Lexeme → Type 0 where
   assign_then : (a : Assign) (rest : List Lexeme) → GoodAssign i a rest → K (assign_ending a) rest → AssignThen i K (assign_text a rest)
 
--- behind a chain of operands that ended so: the expression is whole, or `?` goes on with it
+-- after a chain of operands that ended so: the expression is whole, or `?` goes on with it
 pub data CondRest (i : Bool) (K : Ending → List Lexeme → Type 0) (k : Ending) : List Lexeme → Type 0 where
   ends_so : (rest : List Lexeme) → K k rest → CondRest i K k rest
   chooses : (q : Bool) (a : Assign) (c : Bool) (d : Assign) (rest : List Lexeme) → GoodAssign true a (mark Colon c ∷ assign_text d rest) → GoodAssign i d rest → K (assign_ending d) rest → CondRest i K k (mark Question q ∷ assign_text a (mark Colon c ∷ assign_text d rest))
@@ -59,7 +59,7 @@ pub data ChainThen (i : Bool) (K : Ending → List Lexeme → Type 0) : List Lex
 pub data ExprThen (i : Bool) (p : Punct) (K : List Lexeme → Type 0) : List Lexeme → Type 0 where
   expr_then : (e : Expr) (m : Bool) (rest : List Lexeme) → GoodExpr i e (mark p m ∷ rest) → K rest → ExprThen i p K (expr_text e (mark p m ∷ rest))
 
--- the same behind its first AssignmentExpression
+-- the same after its first AssignmentExpression
 pub data MoreThen (i : Bool) (p : Punct) (K : List Lexeme → Type 0) : List Lexeme → Type 0 where
   closes : (m : Bool) (rest : List Lexeme) → K rest → MoreThen i p K (mark p m ∷ rest)
   goes_on : (c : Bool) (e : Expr) (m : Bool) (rest : List Lexeme) → GoodExpr i e (mark p m ∷ rest) → K rest → MoreThen i p K (mark Comma c ∷ expr_text e (mark p m ∷ rest))
@@ -109,7 +109,7 @@ pub data BodyThen (K : List Lexeme → Type 0) : List Lexeme → Type 0 where
 pub data BlockThen (K : List Lexeme → Type 0) : List Lexeme → Type 0 where
   block_then : (b : Block) (rest : List Lexeme) → GoodBlock b rest → K rest → BlockThen K (block_text b rest)
 
--- behind the `function` of an expression
+-- after the `function` of an expression
 pub data FunctionThen (K : List Lexeme → Type 0) : List Lexeme → Type 0 where
   nameless_then : (rest : List Lexeme) → ParamsThen (λ v. BodyThen K v) rest → FunctionThen K rest
   named_then : (x : Lexeme) (rest : List Lexeme) → is_ident x.token ≡ true → ParamsThen (λ v. BodyThen K v) rest → FunctionThen K (x ∷ rest)
@@ -146,16 +146,16 @@ pub data DeclsMore (k : Ending) (K : List Lexeme → Type 0) : List Lexeme → T
 pub data StatementThen (A : Bool → List Lexeme → Type 0) : List Lexeme → Type 0 where
   statement_then : (s : Statement) (rest : List Lexeme) → GoodStatement s rest → A (is_open s) rest → StatementThen A (statement_text s rest)
 
--- behind the first branch of an `if`, which did or didn't end in an open one
+-- after the first branch of an `if`, which did or didn't end in an open one
 pub data BranchAfter (A : Bool → List Lexeme → Type 0) (o : Bool) : List Lexeme → Type 0 where
   if_ends : (rest : List Lexeme) → A true rest → BranchAfter A o rest
   else_comes : o ≡ false → (m : Bool) (rest : List Lexeme) → StatementThen A rest → BranchAfter A o (word Else m ∷ rest)
 
--- behind the body of a `do`
+-- after the body of a `do`
 pub data DoThen (K : List Lexeme → Type 0) : List Lexeme → Type 0 where
   do_then : (m : Bool) (rest : List Lexeme) → MarkThen LeftParen (λ v. ExprThen true RightParen (λ u. EndThen after_word K u) v) rest → DoThen K (word While m ∷ rest)
 
--- the parts of a `for` header: L holds behind its first semicolon, I behind `in`
+-- the parts of a `for` header: L holds after its first semicolon, I after `in`
 pub data HeadDecls (L : List Lexeme → Type 0) : List Lexeme → Type 0 where
   head_decls : (ds : Decls) (m : Bool) (rest : List Lexeme) → GoodDecls false ds (mark Semicolon m ∷ rest) → L rest → HeadDecls L (decls_text ds (mark Semicolon m ∷ rest))
 
@@ -181,7 +181,7 @@ pub data InitThen (L I : List Lexeme → Type 0) : List Lexeme → Type 0 where
   init_header : (rest : List Lexeme) → HeaderThen L I rest → InitThen L I rest
   init_var : (m : Bool) (rest : List Lexeme) → FirstDecls L I rest → InitThen L I (word Var m ∷ rest)
 
--- in the braces of a `switch`: behind `default`, and before it
+-- in the braces of a `switch`: after `default`, and before it
 pub data CasesThen (K : List Lexeme → Type 0) : List Lexeme → Type 0 where
   cases_then : (cs : Cases) (m : Bool) (rest : List Lexeme) → GoodCases cs (mark RightBrace m ∷ rest) → K rest → CasesThen K (cases_text cs (mark RightBrace m ∷ rest))
 
@@ -189,7 +189,7 @@ pub data ClausesThen (K : List Lexeme → Type 0) : List Lexeme → Type 0 where
   clauses_then : (rest : List Lexeme) → CasesThen K rest → ClausesThen K rest
   default_then : (cs : Cases) (d n : Bool) (ss : Statements) (ds : Cases) (m : Bool) (rest : List Lexeme) → GoodCases cs (word Default d ∷ mark Colon n ∷ statements_text ss (cases_text ds (mark RightBrace m ∷ rest))) → GoodStatements ss (cases_text ds (mark RightBrace m ∷ rest)) → GoodCases ds (mark RightBrace m ∷ rest) → K rest → ClausesThen K (cases_text cs (word Default d ∷ mark Colon n ∷ statements_text ss (cases_text ds (mark RightBrace m ∷ rest))))
 
--- behind the block of a `catch`, and behind that of a `try`
+-- after the block of a `catch`, and after that of a `try`
 pub data FinallyThen (K : List Lexeme → Type 0) : List Lexeme → Type 0 where
   finally_then : (m : Bool) (rest : List Lexeme) → BlockThen K rest → FinallyThen K (word FinallyWord m ∷ rest)
 
@@ -226,9 +226,9 @@ abbrev pub Anything : List Lexeme → Type 0
 Anything w = Unit {0}
 
 pub record Context : Type 1 where
-  -- behind a statement, which did or didn't end in an open `if`
+  -- after a statement, which did or didn't end in an open `if`
   pub after : Bool → List Lexeme → Type 0
-  -- behind an expression that ended so, and that the frame on top ends
+  -- after an expression that ended so, and that the frame on top ends
   pub frame : Ending → List Lexeme → Type 0
   -- where the operand begins that begins a header
   pub header : List Lexeme → Type 0
@@ -237,7 +237,7 @@ pub record Context : Type 1 where
   pub properties : List Lexeme → Type 0
   -- where the name of a variable must come
   pub bindings : List Lexeme → Type 0
-  -- behind `(` of names, behind a comma there, behind a name
+  -- after `(` of names, after a comma there, after a name
   pub first : List Lexeme → Type 0
   pub next : List Lexeme → Type 0
   pub later : List Lexeme → Type 0
@@ -258,7 +258,7 @@ RegionBy Plain e top c w = ChainThen (in_stands e top) (λ k v. EndedBy e c k v)
 RegionBy Target e top c w = AssignThen (in_stands e top) (λ k v. EndedBy e c k v) w
 RegionBy Header e top c w = HeaderBy e c w
 
--- behind a LeftHandSideExpression, whatever it is
+-- after a LeftHandSideExpression, whatever it is
 abbrev pub LeftBy : Role → Ends → Option Frame → Context → List Lexeme → Type 0
 LeftBy r e top c w = (h : HeadOfLeft) → GoodHead h w → RegionBy r e top c (head_text h w)
 
@@ -314,7 +314,7 @@ naming first next later = record {
   later = later;
 }
 
--- behind the braces of a body and of a block
+-- after the braces of a body and of a block
 abbrev pub AfterBody : Owner → Option Frame → Context → List Lexeme → Type 0
 AfterBody (Expression r e) top c w = LeftBy r e top c w
 AfterBody Getter top c w = c.frame after_operand w
@@ -326,7 +326,7 @@ AfterBlock TryBlock c w = HandlersThen (λ v. c.after false v) w
 AfterBlock CatchBlock c w = AfterCatchThen (λ v. c.after false v) w
 AfterBlock _ c w = c.after false w
 
--- behind the parentheses of names
+-- after the parentheses of names
 abbrev pub AfterNames : Owner → Option Frame → Context → List Lexeme → Type 0
 AfterNames Handler top c w = BlockThen (λ v. AfterBlock CatchBlock c v) w
 AfterNames o top c w = BodyThen (λ v. AfterBody o top c v) w
@@ -368,7 +368,7 @@ InClauses NoClause c w = ClausesThen (λ v. c.after false v) w
 InClauses InClause c w = StatementsThen (λ u. ClausesThen (λ v. c.after false v) u) w
 InClauses Defaulted c w = StatementsThen (λ u. CasesThen (λ v. c.after false v) u) w
 
--- in the parentheses of a statement: behind an expression, where the first begins, where one may lack,
+-- in the parentheses of a statement: after an expression, where the first begins, where one may lack,
 -- and where the name of a variable must come
 abbrev pub InHead : Part → Context → List Lexeme → Type 0
 InHead If c w = MoreThen true RightParen (λ v. StatementThen (λ o u. BranchAfter c.after o u) v) w
@@ -437,7 +437,7 @@ LeftRest r e fs w = LeftBy r e (top_of fs) (context fs) w
 abbrev pub EndedRest : Ends → List Frame → Ending → List Lexeme → Type 0
 EndedRest e fs k w = EndedBy e (context fs) k w
 
--- behind a UnaryExpression that ended so
+-- after a UnaryExpression that ended so
 abbrev pub UnaryRest : Ending → Ends → List Frame → List Lexeme → Type 0
 UnaryRest k e fs w =
     (u : Unary) → unary_ending u ≡ k → GoodUnary u w → ChainThen (in_stands e (top_of fs)) (λ j v. EndedRest e fs j v) (unary_text u w)
@@ -450,7 +450,7 @@ BindingRest ByFrame fs w = (context fs).bindings w
 BindingRest BySemicolon fs w = Anything w
 BindingRest ByDeclaration fs w = DeclsEnd (λ v. After fs v) w
 
--- behind the bracket that opens the frame on top
+-- after the bracket that opens the frame on top
 abbrev pub StartRest : Frame → List Frame → List Lexeme → Type 0
 StartRest (Head Init) fs w = (context (Head Init ∷ fs)).lacking w
 StartRest (Head p) fs w = Region Target ByFrame (Head p ∷ fs) w
@@ -497,7 +497,7 @@ Rest NextParameter fs w = (context fs).next w
 Rest AfterParameter fs w = (context fs).later w
 Rest Dead fs w = ⊥
 
--- what may follow behind a token, by the machine's answer
+-- what may follow after a token, by the machine's answer
 abbrev pub Means : Answer → List Frame → List Lexeme → Type 0
 Means Refuse fs w = ⊥
 Means (Go c) fs w = Rest c fs w

@@ -33,7 +33,7 @@ is_dead_state _ = false
 operand_lives : (e : Ends) → Operand Plain e ≡ Dead → ⊥
 operand_lives e h = differ (ap is_dead_state h)
 
--- a division behind a state that wants none, and a regular expression behind one that wants a division
+-- a division after a state that wants none, and a regular expression after one that wants a division
 
 div_is_not : Div ≡ RegExp → ⊥
 div_is_not e = differ (sym (ap is_div e))
@@ -76,7 +76,7 @@ slashes_refused AfterParameter (Some (Parameters o)) n h = refl
 slashes_refused AfterParameter (Some _) n h = refl
 slashes_refused _ top n h = refl
 
-pattern_left : (r : Role) (e : Ends) (top : Option Frame) → refuses (steps.behind r e top Pattern) ≡ true
+pattern_left : (r : Role) (e : Ends) (top : Option Frame) → refuses (steps.after r e top Pattern) ≡ true
 pattern_left Plain ByFrame None = refl
 pattern_left Plain ByFrame (Some f) = refl
 pattern_left Plain BySemicolon top = refl
@@ -128,7 +128,7 @@ pattern_dies c fs n g =
     ap (λ (b : Bool). (steps.step_from (if b && refuses (steps.consume c (top_of fs) Pattern n) then Between else c) fs (lexeme Pattern n)).control) (pattern_held c n g)
     ∙ refused_dies c fs (lexeme Pattern n) (λ top. pattern_refused c top n g)
 
--- the goal suits each token behind which the machine isn't dead
+-- the goal suits each token after which the machine isn't dead
 pub goal_suits : (c : Control) (fs : List Frame) (x : Lexeme) (g : Goal) → steps.goal_of c ≡ g → ((steps.step (at c fs) x).control ≡ Dead → ⊥) → suits x.token g ≡ true
 goal_suits c fs x g is lives = by x.token x.newline g is lives
   where
@@ -147,7 +147,7 @@ or_true : (b : Bool) → b || true ≡ true
 or_true true = refl
 or_true false = refl
 
-slash_goes : (r : Role) (e : Ends) (top : Option Frame) → steps.behind r e top (APunct Slash) ≡ Go (Operand Plain e)
+slash_goes : (r : Role) (e : Ends) (top : Option Frame) → steps.after r e top (APunct Slash) ≡ Go (Operand Plain e)
 slash_goes r e top =
     ap (λ (b : Bool). if b then Go (Operand Plain e) else if false then Push (Conditional e) inside else steps.last r e top (APunct Slash)) (or_true (in_stands e top))
 

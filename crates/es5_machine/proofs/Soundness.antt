@@ -329,7 +329,7 @@ name_back : (fs : List Frame) (t : Token) (n : Bool) (w : List Lexeme) → Means
 name_back fs (APunct Colon) n w m x is = label_back (context fs).after x n w is m
 name_back fs t n w m x is = named_statement fs x (lexeme t n ∷ w) is (left_back Target BySemicolon fs t n w m)
 
--- where the rest may follow behind the machine's answer, the token and the rest may follow before it
+-- where the rest may follow after the machine's answer, the token and the rest may follow before it
 pub consume_back : (c : Control) (fs : List Frame) (x : Lexeme) (w : List Lexeme) → Means (steps.consume c (top_of fs) x.token x.newline) fs w → Rest c fs (x ∷ w)
 consume_back Between fs x w m = between_back fs x.token x.newline w m
 consume_back Need fs x w m = statement_back fs x.token x.newline w m

@@ -116,7 +116,7 @@ close_mark f Semicolon = semicolon f
 close_mark f Colon = colon f
 close_mark f _ = Refuse
 
--- `in` behind the one declaration of a header
+-- `in` after the one declaration of a header
 abbrev pub close_word : Frame → Word → Answer
 close_word (Head First) In = Swap (Head Loop) inside
 close_word _ _ = Refuse
@@ -137,9 +137,9 @@ close ByFrame None t = Refuse
 close BySemicolon top t = close_statement (Operand Target BySemicolon) t
 close ByDeclaration top t = close_statement (Binding ByDeclaration) t
 
--- behind an operand
+-- after an operand
 
--- `in` behind the LeftHandSideExpression that began a header
+-- `in` after the LeftHandSideExpression that began a header
 abbrev pub ends_header : Role → Token → Bool
 ends_header Header t = is_in t
 ends_header _ t = false
@@ -151,8 +151,8 @@ last r e top t = if ends_header r t then Swap (Head Loop) inside else close e to
 abbrev pub is_operator : Ends → Option Frame → Token → Bool
 is_operator e top t = is_binary t && may_stand (in_stands e top) t
 
-abbrev pub behind : Role → Ends → Option Frame → Token → Answer
-behind r e top t =
+abbrev pub after : Role → Ends → Option Frame → Token → Answer
+after r e top t =
     if is_operator e top t then Go (Operand Plain e)
     else if is_question t then Push (Conditional e) inside else last r e top t
 
@@ -170,7 +170,7 @@ abbrev pub suffix : Role → Ends → Option Frame → Punct → Answer
 suffix r e top Dot = Go (AfterDot r e)
 suffix r e top LeftBracket = Push (Index r e) inside
 suffix r e top LeftParen = Push (Paren r e) MayLack
-suffix r e top p = behind r e top (APunct p)
+suffix r e top p = after r e top (APunct p)
 
 abbrev pub left_mark : Role → Ends → Option Frame → Punct → Bool → Answer
 left_mark r e top p newline =
@@ -179,7 +179,7 @@ left_mark r e top p newline =
 
 abbrev pub left : Role → Ends → Option Frame → Token → Bool → Answer
 left r e top (APunct p) newline = left_mark r e top p newline
-left r e top t newline = behind r e top t
+left r e top t newline = after r e top t
 
 abbrev pub dot : Role → Ends → Token → Answer
 dot r e t = if is_name t then Go (AfterLeft r e) else Refuse
@@ -410,7 +410,7 @@ binding e t = if is_ident t then Go (Bound e) else Refuse
 abbrev pub bound : Ends → Option Frame → Token → Answer
 bound e top t = if is_equals t then Go (Operand Target e) else close e top t
 
--- behind an identifier that begins a statement
+-- after an identifier that begins a statement
 abbrev pub after_name : Option Frame → Token → Bool → Answer
 after_name top t newline = if is_colon t then Go Need else left Target BySemicolon top t newline
 
@@ -434,7 +434,7 @@ consume (Callee r e) top t newline = callee r e t
 consume (AfterLeft r e) top t newline = left r e top t newline
 consume AfterName top t newline = after_name top t newline
 consume (AfterDot r e) top t newline = dot r e t
-consume (AfterUpdate e) top t newline = behind Plain e top t
+consume (AfterUpdate e) top t newline = after Plain e top t
 consume AfterAccessor top t newline = close ByFrame top t
 consume MayLack top t newline = may_lack top t
 consume Properties top t newline = properties top t
@@ -472,7 +472,7 @@ abbrev pub refuses : Answer → Bool
 refuses Refuse = true
 refuses _ = false
 
--- where the machine stands before the token: behind the statement, where its semicolon is left out
+-- where the machine stands before the token: after the statement, where its semicolon is left out
 abbrev pub before : Control → Option Frame → Token → Bool → Control
 before c top t newline =
     if omits (ended c) t newline && refuses (consume c top t newline) then Between else c

@@ -27,7 +27,7 @@ pub(crate) fn operand(role: Role, ends: Ends, token: Token) -> Answer
     }
 }
 
-/// The same behind `new`: MemberExpression and NewExpression.
+/// The same after `new`: MemberExpression and NewExpression.
 pub(crate) fn callee(role: Role, ends: Ends, token: Token) -> Answer
     ensures { result ≡ steps.callee role ends token }
 {
@@ -58,7 +58,7 @@ fn opening(role: Role, ends: Ends, token: Token) -> Answer
     }
 }
 
-/// Behind a LeftHandSideExpression.
+/// After a LeftHandSideExpression.
 #[inline(always)]
 pub(crate) fn left(
     role: Role,
@@ -71,7 +71,7 @@ pub(crate) fn left(
 {
     match token {
         Token::Punct(mark) => left_mark(role, ends, top, mark, newline),
-        _ => behind(role, ends, top, token),
+        _ => after(role, ends, top, token),
     }
 }
 
@@ -118,14 +118,14 @@ fn suffix(role: Role, ends: Ends, top: Option<Frame>, mark: Punct) -> Answer
         Punct::Dot => Answer::Go(Control::AfterDot(role, ends)),
         Punct::LeftBracket => Answer::Push(Frame::Index(role, ends), INSIDE),
         Punct::LeftParen => Answer::Push(Frame::Paren(role, ends), Control::MayLack),
-        _ => behind(role, ends, top, Token::Punct(mark)),
+        _ => after(role, ends, top, Token::Punct(mark)),
     }
 }
 
-/// Behind a UnaryExpression: a binary operator, `?`, or the end.
+/// After a UnaryExpression: a binary operator, `?`, or the end.
 #[inline(always)]
-pub(crate) fn behind(role: Role, ends: Ends, top: Option<Frame>, token: Token) -> Answer
-    ensures { result ≡ steps.behind role ends top token }
+pub(crate) fn after(role: Role, ends: Ends, top: Option<Frame>, token: Token) -> Answer
+    ensures { result ≡ steps.after role ends top token }
 {
     if is_operator(ends, top, token) {
         Answer::Go(Control::Operand(Role::Plain, ends))
@@ -162,7 +162,7 @@ fn in_stands_over(top: Option<Frame>) -> bool
     }
 }
 
-/// The `in` of a header behind what began it, or the end of an AssignmentExpression.
+/// The `in` of a header after what began it, or the end of an AssignmentExpression.
 fn last(role: Role, ends: Ends, top: Option<Frame>, token: Token) -> Answer
     ensures { result ≡ steps.last role ends top token }
 {
@@ -202,7 +202,7 @@ fn close_by_frame(top: Option<Frame>, token: Token) -> Answer
     }
 }
 
-/// A comma, behind which a statement goes on so, or its semicolon.
+/// A comma, after which a statement goes on so, or its semicolon.
 fn close_statement(next: Control, token: Token) -> Answer
     ensures { result ≡ steps.close_statement next token }
 {
@@ -213,7 +213,7 @@ fn close_statement(next: Control, token: Token) -> Answer
     }
 }
 
-/// What ends an expression, or goes on behind it, in the frame.
+/// What ends an expression, or goes on after it, in the frame.
 fn close_frame(frame: Frame, token: Token) -> Answer
     ensures { result ≡ steps.close_frame frame token }
 {
@@ -238,7 +238,7 @@ fn close_mark(frame: Frame, mark: Punct) -> Answer
     }
 }
 
-/// `in` behind the one declaration of a header.
+/// `in` after the one declaration of a header.
 fn close_word(frame: Frame, word: Word) -> Answer
     ensures { result ≡ steps.close_word frame word }
 {
@@ -315,7 +315,7 @@ fn semicolon(frame: Frame) -> Answer
     }
 }
 
-/// The `:` of a conditional or behind `case`.
+/// The `:` of a conditional or after `case`.
 fn colon(frame: Frame) -> Answer
     ensures { result ≡ steps.colon frame }
 {
@@ -326,7 +326,7 @@ fn colon(frame: Frame) -> Answer
     }
 }
 
-/// Behind the `.` of a member.
+/// After the `.` of a member.
 pub(crate) fn dot(role: Role, ends: Ends, token: Token) -> Answer
     ensures { result ≡ steps.dot role ends token }
 {
@@ -438,7 +438,7 @@ fn key(token: Token) -> Answer
     }
 }
 
-/// Behind the name of a property.
+/// After the name of a property.
 pub(crate) fn after_key(token: Token) -> Answer
     ensures { result ≡ steps.after_key token }
 {
@@ -449,7 +449,7 @@ pub(crate) fn after_key(token: Token) -> Answer
     }
 }
 
-/// Behind `get` or `set`: the name of an accessor, or the `:` behind a name of its own.
+/// After `get` or `set`: the name of an accessor, or the `:` after a name of its own.
 pub(crate) fn accessor(owner: Owner, token: Token) -> Answer
     ensures { result ≡ steps.accessor owner token }
 {
@@ -485,7 +485,7 @@ pub(crate) fn function_name(role: Role, ends: Ends, token: Token) -> Answer
     }
 }
 
-/// Behind the `(` of names.
+/// After the `(` of names.
 pub(crate) fn first_parameter(top: Option<Frame>, token: Token) -> Answer
     ensures { result ≡ steps.first_parameter top token }
 {
@@ -507,7 +507,7 @@ fn first_of(owner: Owner, token: Token) -> Answer
     }
 }
 
-/// Behind a comma between names.
+/// After a comma between names.
 pub(crate) fn next_parameter(token: Token) -> Answer
     ensures { result ≡ steps.next_parameter token }
 {
@@ -518,7 +518,7 @@ pub(crate) fn next_parameter(token: Token) -> Answer
     }
 }
 
-/// Behind a name among them.
+/// After a name among them.
 pub(crate) fn after_parameter(top: Option<Frame>, token: Token) -> Answer
     ensures { result ≡ steps.after_parameter top token }
 {
@@ -558,7 +558,7 @@ fn has_many(owner: Owner) -> bool
     matches!(owner, Owner::Declaration | Owner::Expression(_, _))
 }
 
-/// The braces behind the names.
+/// The braces after the names.
 fn body_of(owner: Owner) -> Frame
     ensures { result ≡ steps.body_of owner }
 {
@@ -579,7 +579,7 @@ pub(crate) fn binding(ends: Ends, token: Token) -> Answer
     }
 }
 
-/// Behind the name of a variable.
+/// After the name of a variable.
 pub(crate) fn bound(ends: Ends, top: Option<Frame>, token: Token) -> Answer
     ensures { result ≡ steps.bound ends top token }
 {

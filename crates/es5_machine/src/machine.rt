@@ -71,12 +71,12 @@ impl Machine {
         is_dead(self.control())
     }
 
-    /// Whether the machine would be alive behind this token.
+    /// Whether the machine would be alive after this token.
     pub fn would_live(&self, token: Token, newline: bool) -> bool
         ensures state { IsTrue result ↔ (IsDead (steps.step self.now (lexeme token newline)) → ⊥) }
         ensures exact { (m : List Lexeme) → HasRead self.now m → (IsTrue result ↔ IsViable (m ++ (lexeme token newline ∷ []))) }
     {
-        !is_dead(self.control_behind(token, newline))
+        !is_dead(self.control_after(token, newline))
     }
 
     /// Whether the tokens read are a program that nests at most 1,024 deep.
@@ -109,7 +109,7 @@ impl Machine {
     }
 
     /// Where a token leads.
-    fn control_behind(&self, token: Token, newline: bool) -> Control
+    fn control_after(&self, token: Token, newline: bool) -> Control
         ensures { result ≡ (steps.step self.now (lexeme token newline)).control }
     {
         let control = before(self.control, self.top(), token, newline);

@@ -46,7 +46,7 @@ fn is_refused(control: Control, top: Option<Frame>, token: Token, newline: bool)
     refuses(consume(control, top, token, newline))
 }
 
-/// Where the machine stands before the token: behind the statement, where its semicolon is left out.
+/// Where the machine stands before the token: after the statement, where its semicolon is left out.
 pub(crate) fn before(control: Control, top: Option<Frame>, token: Token, newline: bool) -> Control
     ensures { result ≡ steps.before control top token newline }
 {

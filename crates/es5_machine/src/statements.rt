@@ -8,7 +8,7 @@ use crate::classes::{
     is_left_paren, is_right_brace, is_semicolon, is_while,
 };
 use crate::expressions::{
-    accessor, after_key, after_parameter, behind, binding, bound, callee, close, declaration_name,
+    accessor, after, after_key, after_parameter, binding, bound, callee, close, declaration_name,
     dot, first_parameter, function_name, left, may_lack, next_parameter, operand, properties,
 };
 use crate::states::{Answer, BlockKind, Control, Ends, Frame, Owner, Part, Phase, Role};
@@ -76,7 +76,7 @@ fn element(token: Token) -> Answer
     }
 }
 
-/// In a list of statements or clauses, or behind a statement.
+/// In a list of statements or clauses, or after a statement.
 fn between(top: Option<Frame>, token: Token) -> Answer
     ensures { result ≡ steps.between top token }
 {
@@ -205,7 +205,7 @@ fn in_do(token: Token) -> Answer
     }
 }
 
-/// Behind the block of a `catch`.
+/// After the block of a `catch`.
 fn after_catch(top: Option<Frame>, token: Token) -> Answer
     ensures { result ≡ steps.after_catch top token }
 {
@@ -227,7 +227,7 @@ fn at_end(token: Token) -> Answer
     }
 }
 
-/// Behind `continue` or `break`: a label on the same line, or the end.
+/// After `continue` or `break`: a label on the same line, or the end.
 fn after_jump(token: Token, newline: bool) -> Answer
     ensures { result ≡ steps.after_jump token newline }
 {
@@ -238,7 +238,7 @@ fn after_jump(token: Token, newline: bool) -> Answer
     }
 }
 
-/// Behind `return`: an expression on the same line, or the end.
+/// After `return`: an expression on the same line, or the end.
 fn after_return(token: Token, newline: bool) -> Answer
     ensures { result ≡ steps.after_return token newline }
 {
@@ -249,7 +249,7 @@ fn after_return(token: Token, newline: bool) -> Answer
     }
 }
 
-/// Behind `throw`: an expression on the same line.
+/// After `throw`: an expression on the same line.
 fn after_throw(token: Token, newline: bool) -> Answer
     ensures { result ≡ steps.after_throw token newline }
 {
@@ -260,7 +260,7 @@ fn after_throw(token: Token, newline: bool) -> Answer
     }
 }
 
-/// Behind the block of a `try`.
+/// After the block of a `try`.
 fn after_try(token: Token) -> Answer
     ensures { result ≡ steps.after_try token }
 {
@@ -271,7 +271,7 @@ fn after_try(token: Token) -> Answer
     }
 }
 
-/// Behind `default`.
+/// After `default`.
 fn after_default(token: Token) -> Answer
     ensures { result ≡ steps.after_default token }
 {
@@ -303,7 +303,7 @@ fn opens(frame: Frame, token: Token) -> bool
     }
 }
 
-/// Where the machine stands behind the bracket that opens the frame.
+/// Where the machine stands after the bracket that opens the frame.
 fn start(frame: Frame) -> Control
     ensures { result ≡ steps.start frame }
 {
@@ -315,7 +315,7 @@ fn start(frame: Frame) -> Control
     }
 }
 
-/// Behind an identifier that begins a statement: a label's `:`, or what goes on with an expression.
+/// After an identifier that begins a statement: a label's `:`, or what goes on with an expression.
 fn after_name(top: Option<Frame>, token: Token, newline: bool) -> Answer
     ensures { result ≡ steps.after_name top token newline }
 {
@@ -349,7 +349,7 @@ pub(crate) fn consume(control: Control, top: Option<Frame>, token: Token, newlin
         Control::AfterLeft(role, ends) => left(role, ends, top, token, newline),
         Control::AfterName => after_name(top, token, newline),
         Control::AfterDot(role, ends) => dot(role, ends, token),
-        Control::AfterUpdate(ends) => behind(Role::Plain, ends, top, token),
+        Control::AfterUpdate(ends) => after(Role::Plain, ends, top, token),
         Control::AfterAccessor => close(Ends::ByFrame, top, token),
         Control::MayLack => may_lack(top, token),
         Control::Properties => properties(top, token),

@@ -35,7 +35,7 @@ pub enum Part {
     Loop,
     /// What a `switch` looks at.
     Switch,
-    /// The condition behind a `do` and its body.
+    /// The condition after a `do` and its body.
     DoWhile,
     /// The first part of a `for`.
     Init,
@@ -61,7 +61,7 @@ pub enum BlockKind {
 pub enum Phase {
     /// No clause has begun, so no statement may stand here.
     NoClause,
-    /// In or behind a clause.
+    /// In or after a clause.
     InClause,
     /// The same, and `default` was one of them.
     Defaulted,
@@ -82,7 +82,7 @@ pub enum Owner {
     Handler,
 }
 
-/// A unit that is open, and what goes on behind it.
+/// A unit that is open, and what goes on after it.
 #[derive(Clone, Copy)]
 pub enum Frame {
     /// `(` of an expression or of arguments.
@@ -95,7 +95,7 @@ pub enum Frame {
     Object(Role, Ends),
     /// `?` of a conditional.
     Conditional(Ends),
-    /// `(` behind a word of a statement.
+    /// `(` after a word of a statement.
     Head(Part),
     /// `(` of parameters, of an accessor or of a `catch`.
     Parameters(Owner),
@@ -121,63 +121,63 @@ impl Default for Frame {
 /// Where the machine stands.
 #[derive(Clone, Copy)]
 pub enum Control {
-    /// In a list of statements or clauses, or behind a statement.
+    /// In a list of statements or clauses, or after a statement.
     Between,
     /// A statement must begin.
     Need,
-    /// Behind the block of a `catch`: as between statements, or `finally`.
+    /// After the block of a `catch`: as between statements, or `finally`.
     AfterCatch,
     /// The statement is complete but for its semicolon.
     AtEnd,
-    /// Behind `continue` or `break`.
+    /// After `continue` or `break`.
     AfterJump,
-    /// Behind `return`.
+    /// After `return`.
     AfterReturn,
-    /// Behind `throw`.
+    /// After `throw`.
     AfterThrow,
-    /// Behind the block of a `try`.
+    /// After the block of a `try`.
     AfterTry,
-    /// Behind `default`.
+    /// After `default`.
     AfterDefault,
     /// The bracket that opens this frame must come.
     Open(Frame),
     /// The name of a variable must come.
     Binding(Ends),
-    /// Behind the name of a variable.
+    /// After the name of a variable.
     Bound(Ends),
     /// An operand must begin.
     Operand(Role, Ends),
-    /// Behind `new`.
+    /// After `new`.
     Callee(Role, Ends),
-    /// Behind a LeftHandSideExpression, which may go on.
+    /// After a LeftHandSideExpression, which may go on.
     AfterLeft(Role, Ends),
-    /// Behind an identifier that begins a statement: the same, or a label.
+    /// After an identifier that begins a statement: the same, or a label.
     AfterName,
-    /// Behind the `.` of a member.
+    /// After the `.` of a member.
     AfterDot(Role, Ends),
-    /// Behind the `++` or `--` that ends a PostfixExpression.
+    /// After the `++` or `--` that ends a PostfixExpression.
     AfterUpdate(Ends),
-    /// Behind the body of an accessor.
+    /// After the body of an accessor.
     AfterAccessor,
     /// An operand may begin, or the frame on top goes on without one.
     MayLack,
     /// In an object literal, where a property may begin.
     Properties,
-    /// Behind the name of a property.
+    /// After the name of a property.
     AfterKey,
-    /// Behind `get` where a property may begin.
+    /// After `get` where a property may begin.
     AfterGet,
-    /// Behind `set` where a property may begin.
+    /// After `set` where a property may begin.
     AfterSet,
-    /// Behind the `function` of a declaration.
+    /// After the `function` of a declaration.
     DeclarationName,
-    /// Behind the `function` of an expression.
+    /// After the `function` of an expression.
     FunctionName(Role, Ends),
-    /// Behind the `(` of names.
+    /// After the `(` of names.
     FirstParameter,
-    /// Behind a comma between names.
+    /// After a comma between names.
     NextParameter,
-    /// Behind a name among them.
+    /// After a name among them.
     AfterParameter,
     /// Nothing can save the list.
     Dead,

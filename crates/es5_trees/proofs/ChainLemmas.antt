@@ -20,9 +20,9 @@ tail_of (operand u) tail = tail
 tail_of (operation a x b) tail = tail_of a (further x (first_of b) (tail_of b tail))
 
 -- what a chain ends in whose first operand ends so
-ending_behind : Ending → Tail → Ending
-ending_behind k nothing = k
-ending_behind k (further x u tail) = chain_ending u tail
+ending_after : Ending → Tail → Ending
+ending_after k nothing = k
+ending_after k (further x u tail) = chain_ending u tail
 
 flat_text : (b : Binary) (tail : Tail) (rest : List Lexeme) → binary_text b (tail_text tail rest) ≡ unary_text (first_of b) (tail_text (tail_of b tail) rest)
 unfolding first_of tail_of
@@ -46,14 +46,14 @@ good_tail i n (operation a x b) tail rest h k =
     (subst (λ (w : List Lexeme). GoodBinary i (level x.token) a (x ∷ w)) (flat_text b tail rest) h.1)
     ((h.0.1, h.0.2), good_first i (suc (level x.token)) b tail rest h.2, good_tail i (suc (level x.token)) b tail rest h.2 k)
 
-flat_ending : (b : Binary) (tail : Tail) → chain_ending (first_of b) (tail_of b tail) ≡ ending_behind (binary_ending b) tail
-unfolding first_of tail_of ending_behind
+flat_ending : (b : Binary) (tail : Tail) → chain_ending (first_of b) (tail_of b tail) ≡ ending_after (binary_ending b) tail
+unfolding first_of tail_of ending_after
 flat_ending (operand u) nothing = refl
 flat_ending (operand u) (further x v tail) = refl
 flat_ending (operation a x b) tail = flat_ending a (further x (first_of b) (tail_of b tail)) ∙ flat_ending b tail
 
 pub levels_chain : (i : Bool) (k : Ending) (tokens rest : List Lexeme) → SpellsLevels i k tokens rest → SpellsChain i k tokens rest
-unfolding ending_behind
+unfolding ending_after
 levels_chain i k tokens rest h = record {
   first = first_of h.tree;
   tail = tail_of h.tree nothing;
@@ -103,27 +103,27 @@ grown i n (operation a y c) x u rest h low some may good =
 record Built (i : Bool) (b : Binary) (tail : Tail) (rest : List Lexeme) : Type 0 where
   pub tree : Binary
   pub good : GoodBinary i 1 tree rest
-  pub ends : binary_ending tree ≡ ending_behind (binary_ending b) tail
+  pub ends : binary_ending tree ≡ ending_after (binary_ending b) tail
   pub spells : binary_text tree rest ≡ binary_text b (tail_text tail rest)
 
 built : (i : Bool) (b : Binary) (tail : Tail) (rest : List Lexeme) → GoodBinary i 1 b (tail_text tail rest) → GoodTail i tail rest → Built i b tail rest
-unfolding ending_behind
+unfolding ending_after
 built i b nothing rest h k = record { tree = b; good = h; ends = refl; spells = refl }
 built i b (further x u tail) rest h k =
     let g = grown i 1 b x u (tail_text tail rest) h k.0.0 k.0.0 k.0.1 k.1 in
     let r = built i g.tree tail rest g.good k.2 in
     record { tree = r.tree; good = r.good; ends = r.ends ∙ ending_along (binary_ending g.tree) u tail g.ends; spells = r.spells ∙ g.spells }
   where
-    ending_along : (k : Ending) (v : Unary) (more : Tail) → k ≡ unary_ending v → ending_behind k more ≡ chain_ending v more
+    ending_along : (k : Ending) (v : Unary) (more : Tail) → k ≡ unary_ending v → ending_after k more ≡ chain_ending v more
     ending_along k v nothing e = e
     ending_along k v (further y w others) e = refl
 
 pub chain_levels : (i : Bool) (k : Ending) (tokens rest : List Lexeme) → SpellsChain i k tokens rest → SpellsLevels i k tokens rest
-unfolding ending_behind
+unfolding ending_after
 chain_levels i k tokens rest h =
     let b = built i (operand h.first) h.tail rest h.good_first h.good_tail in
     record { tree = b.tree; good = b.good; ends = b.ends ∙ start_ending h.first h.tail ∙ h.ends; spells = h.spells ∙ sym b.spells }
   where
-    start_ending : (u : Unary) (tail : Tail) → ending_behind (unary_ending u) tail ≡ chain_ending u tail
+    start_ending : (u : Unary) (tail : Tail) → ending_after (unary_ending u) tail ≡ chain_ending u tail
     start_ending u nothing = refl
     start_ending u (further x v tail) = refl

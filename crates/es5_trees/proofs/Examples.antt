@@ -39,8 +39,8 @@ update_on_the_next_line = record {
 }
 
 -- a++⏎(b)
-pub parentheses_behind_an_update : IsProgram (lexeme Ident false ∷ mark PlusPlus false ∷ mark LeftParen true ∷ lexeme Ident false ∷ mark RightParen false ∷ [])
-parentheses_behind_an_update = record {
+pub parentheses_after_an_update : IsProgram (lexeme Ident false ∷ mark PlusPlus false ∷ mark LeftParen true ∷ lexeme Ident false ∷ mark RightParen false ∷ [])
+parentheses_after_an_update = record {
   program = (more_elements (statement (expression (one (value (plain (operand (unmarked (update (new_left (member (primary (atom (lexeme Ident false))))) PlusPlus)))))) omitted)) (more_elements (statement (expression (one (value (plain (operand (unmarked (left (new_left (member (primary (parens true (one (value (plain (operand (unmarked (left (new_left (member (primary (atom (lexeme Ident false))))))))))) false)))))))))) omitted)) no_element));
   good = search rules;
   shallow = lit≤ tt;
@@ -57,8 +57,8 @@ a_call_on_the_next_line = record {
 }
 
 -- var a⏎(b)
-pub parentheses_behind_a_name : IsProgram (word Var false ∷ lexeme Ident false ∷ mark LeftParen true ∷ lexeme Ident false ∷ mark RightParen false ∷ [])
-parentheses_behind_a_name = record {
+pub parentheses_after_a_name : IsProgram (word Var false ∷ lexeme Ident false ∷ mark LeftParen true ∷ lexeme Ident false ∷ mark RightParen false ∷ [])
+parentheses_after_a_name = record {
   program = (more_elements (statement (variables false (one_decl (bare (lexeme Ident false))) omitted)) (more_elements (statement (expression (one (value (plain (operand (unmarked (left (new_left (member (primary (parens true (one (value (plain (operand (unmarked (left (new_left (member (primary (atom (lexeme Ident false))))))))))) false)))))))))) omitted)) no_element));
   good = search rules;
   shallow = lit≤ tt;
@@ -66,8 +66,8 @@ parentheses_behind_a_name = record {
 }
 
 -- var a⏎/x/
-pub a_pattern_behind_a_name : IsProgram (word Var false ∷ lexeme Ident false ∷ lexeme Pattern true ∷ [])
-a_pattern_behind_a_name = record {
+pub a_pattern_after_a_name : IsProgram (word Var false ∷ lexeme Ident false ∷ lexeme Pattern true ∷ [])
+a_pattern_after_a_name = record {
   program = (more_elements (statement (variables false (one_decl (bare (lexeme Ident false))) omitted)) (more_elements (statement (expression (one (value (plain (operand (unmarked (left (new_left (member (primary (atom (lexeme Pattern true))))))))))) omitted)) no_element));
   good = search rules;
   shallow = lit≤ tt;

@@ -7,7 +7,7 @@ use Rattle.es5_trees.specs.Spelling.{binary_text, unary_text}
 use Rattle.es5_trees.specs.Endings.{Ending, unary_ending, binary_ending}
 use Rattle.es5_trees.specs.Good.{GoodBinary, GoodUnary, may_stand}
 
--- what stands behind the first operand
+-- what stands after the first operand
 pub data Tail : Type 0 where
   nothing : Tail
   further : Lexeme → Unary → Tail → Tail

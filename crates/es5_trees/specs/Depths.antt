@@ -1,4 +1,4 @@
--- How many units are open at each token of a tree, in front of those of what follows it. A unit is a
+-- How many units are open at each token of a tree, before those of what follows it. A unit is a
 -- pair of brackets, a conditional from `?` to `:`, the first branch of an `if`, or a `do` with its
 -- body; the tokens at both ends are in it. Each clause is one of `Spelling`, with the number of units
 -- in the place of the token.

@@ -15,7 +15,7 @@ pub data Ending : Type 0 where
   after_update : Ending
   -- Decls whose last Decl is an identifier alone
   after_name : Ending
-  -- a word, the identifier behind `continue` or `break`, or the `)` of `do`
+  -- a word, the identifier after `continue` or `break`, or the `)` of `do`
   after_word : Ending
 
 -- the last part of an expression tells
@@ -103,7 +103,7 @@ abbrev pub Ends : Ending → End → List Lexeme → Type 0
 Ends k (semicolon n) rest = Unit {0}
 Ends k omitted rest = may_omit k rest ≡ true
 
--- a statement ends in an open `if`: one to which an `else` behind it would belong
+-- a statement ends in an open `if`: one to which an `else` after it would belong
 abbrev pub is_open : Statement → Bool
 is_open (if_only w o e c s) = true
 is_open (if_else w o e c s n t) = is_open t

@@ -1,4 +1,4 @@
--- What a tree's rules ask besides its tokens, in front of what follows it: that operators stand at their
+-- What a tree's rules ask besides its tokens, before what follows it: that operators stand at their
 -- levels, that `in` stands only where it may, that each token is of its set, where a semicolon may be
 -- left out, that no line ends where none may, and that the first branch of an `if` leaves no `else` to
 -- another. What follows counts by its first token alone, at the end of a statement.
@@ -44,7 +44,7 @@ abbrev mutual
       × GoodAssign true a (mark Colon c ∷ assign_text d rest)
       × GoodAssign i d rest
 
-  -- at a level or above it: the operand before an operator is at its level, the one behind above it
+  -- at a level or above it: the operand before an operator is at its level, the one after above it
   pub GoodBinary : Bool → ℕ → Binary → List Lexeme → Type 0
   GoodBinary i n (operand u) rest = GoodUnary u rest
   GoodBinary i n (operation a x b) rest =

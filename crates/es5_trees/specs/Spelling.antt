@@ -1,4 +1,4 @@
--- The tokens of each tree, in front of what follows it.
+-- The tokens of each tree, before what follows it.
 use Rattle.std.specs.Prelude.{Bool, false, List, [], ◌∷◌}
 use Rattle.es5_lexer.specs.declared.tokens.Word.TheVariants.{New as NewWord, Function as FunctionWord, Var, If, Else, Do, While, For, In, Return, Throw, Debugger, Switch, Case, Default, Try, Catch as CatchWord, Finally as FinallyWord}
 use Rattle.es5_lexer.specs.declared.tokens.Punct.TheVariants.{LeftBrace, RightBrace, LeftParen, RightParen, LeftBracket, RightBracket, Dot, Semicolon, Comma, Question, Colon, Assign as Equals}

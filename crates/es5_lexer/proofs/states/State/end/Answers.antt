@@ -1,5 +1,5 @@
 use Rattle.std.proofs.Common.{true, false, None, [], ◌∷◌, sym, subst, ◌∙◌, ap, is_some}
-use Rattle.es5_lexer.specs.Places.{behind_slash, ended}
+use Rattle.es5_lexer.specs.Places.{past_slash, ended}
 use Rattle.es5_lexer.specs.Residuals.{Ends}
 use Rattle.es5_lexer.specs.declared.places.Place.{Place}
 use Rattle.es5_lexer.specs.declared.states.State.{State}
@@ -20,10 +20,10 @@ returns-in-BlockComment-clause-ends c read newline =
 
 pub returns-in-Slash-clause-ends : goal.returns-in-Slash-clause-ends
 returns-in-Slash-clause-ends c read newline =
-    let at = c.behind_slash.ensures in
+    let at = c.past_slash.ensures in
     subst (λ (s : State). Ends s read newline c.args.goal c.end_of_token.result.0 c.end_of_token.result.1) (sym c.in-Slash.is)
     (slash_end read newline c.args.goal _ _
-    (token_end (behind_slash c.args.goal) (47 ∷ []) newline c.args.goal _ _ (c.end_of_token.ensures.whole ∙ ap (λ (p : Place). is_some (ended p)) at) (λ e. c.end_of_token.ensures.kind e ∙ ap ended at)))
+    (token_end (past_slash c.args.goal) (47 ∷ []) newline c.args.goal _ _ (c.end_of_token.ensures.whole ∙ ap (λ (p : Place). is_some (ended p)) at) (λ e. c.end_of_token.ensures.kind e ∙ ap ended at)))
 
 pub returns-in-Token-clause-ends : goal.returns-in-Token-clause-ends
 returns-in-Token-clause-ends c read newline =

@@ -15,4 +15,4 @@ so_not false h = refl
 pub returns-clause-exact : goal.returns-clause-exact
 returns-clause-exact c m h =
     let e = lives_exact c.args.self.now m (lexeme c.args.token c.args.newline) h in
-    (λ t. e.0 (λ d. not_so c.is_dead.result t (c.is_dead.ensures.1 (c.control_behind.ensures ∙ d))), λ p. so_not c.is_dead.result (λ d. e.1 p (sym c.control_behind.ensures ∙ c.is_dead.ensures.0 d)))
+    (λ t. e.0 (λ d. not_so c.is_dead.result t (c.is_dead.ensures.1 (c.control_after.ensures ∙ d))), λ p. so_not c.is_dead.result (λ d. e.1 p (sym c.control_after.ensures ∙ c.is_dead.ensures.0 d)))

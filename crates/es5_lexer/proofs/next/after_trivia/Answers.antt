@@ -2,8 +2,8 @@ use Rattle.std.proofs.Common.{◌∙◌, sym, ap, length, arith}
 use Rattle.es5_lexer.proofs.ListLemmas.{last-drop}
 use Rattle.es5_lexer.proofs.Choices.{if_true, if_false}
 use Rattle.es5_lexer.proofs.PassLemmas.{start, passes_next, trivium_less}
-use Rattle.es5_lexer.proofs.next.behind_trivia.Goals as goal
-use Rattle.es5_lexer.proofs.next.behind_trivia.Goals.{then-trivium, else-trivium}
+use Rattle.es5_lexer.proofs.next.after_trivia.Goals as goal
+use Rattle.es5_lexer.proofs.next.after_trivia.Goals.{then-trivium, else-trivium}
 
 pub trivia-init : goal.trivia-init
 trivia-init c = start c.args.text.now

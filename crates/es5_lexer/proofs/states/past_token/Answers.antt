@@ -1,7 +1,7 @@
 use Rattle.std.proofs.Common.{[], sym, ◌∙◌}
 use Rattle.es5_lexer.proofs.StepLemmas.{as_step}
 use Rattle.es5_lexer.proofs.TokenSteps.{barred_step, end_step}
-use Rattle.es5_lexer.proofs.states.behind_token.Goals as goal
+use Rattle.es5_lexer.proofs.states.past_token.Goals as goal
 
 pub returns-then-bars-clause-steps : goal.returns-then-bars-clause-steps
 returns-then-bars-clause-steps c read =

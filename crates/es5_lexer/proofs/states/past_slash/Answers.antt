@@ -4,7 +4,7 @@ use Rattle.es5_lexer.specs.Residuals.{Steps}
 use Rattle.es5_lexer.specs.declared.places.Place.{Place}
 use Rattle.es5_lexer.specs.declared.states.State.TheVariants.{Token}
 use Rattle.es5_lexer.proofs.SlashLemmas.{comment_line_step, comment_block_step, slash_token_step}
-use Rattle.es5_lexer.proofs.states.behind_slash.Goals as goal
+use Rattle.es5_lexer.proofs.states.past_slash.Goals as goal
 
 pub returns-then-c-eq47-clause-steps : goal.returns-then-c-eq47-clause-steps
 returns-then-c-eq47-clause-steps c read =
@@ -17,4 +17,4 @@ returns-then-c-eq42-clause-steps c read =
 pub returns-else-c-eq42-clause-steps : goal.returns-else-c-eq42-clause-steps
 returns-else-c-eq42-clause-steps c read =
     slash_token_step read c.args.newline c.args.goal c.args.c _ _ _ (grind (arith, nat_tests)) (grind (arith, nat_tests))
-    (subst (λ (x : Place). Steps (Token x) (47 ∷ []) c.args.newline c.args.goal c.args.c c.in_token.result.given c.in_token.result.state c.in_token.result.newline) c.behind_slash.ensures (c.in_token.ensures.steps (47 ∷ [])))
+    (subst (λ (x : Place). Steps (Token x) (47 ∷ []) c.args.newline c.args.goal c.args.c c.in_token.result.given c.in_token.result.state c.in_token.result.newline) c.past_slash.ensures (c.in_token.ensures.steps (47 ∷ [])))
