@@ -5,7 +5,7 @@
 #
 #     bench/scripts.sh [SCRIPT.js ..]
 #
-# Scripts are to be of ECMA-262 5.1: behind a character that begins no token a lexer has no work. Without names some are
+# Scripts are to be of ECMA-262 5.1: after a character that begins no token a lexer has no work. Without names some are
 # looked for below /usr/share and ~/.rustup. It clones the repository into a scratch folder, adds a program there, and
 # runs it. Nothing here is part of the gate.
 set -e
@@ -109,8 +109,8 @@ use text_stream::Decoder;
 
 const PIECE: usize = 8192;
 
-/// The goal of a plain rule: division behind a name, a literal and a closing bracket.
-fn goal_behind(token: Token) -> Goal {
+/// The goal of a plain rule: division after a name, a literal and a closing bracket.
+fn goal_after(token: Token) -> Goal {
     match token {
         Token::Word(_) => Goal::RegExp,
         Token::Punct(Punct::RightParen | Punct::RightBracket | Punct::RightBrace) => Goal::Div,
@@ -148,7 +148,7 @@ impl Reader {
         self.lexer.feed_char(self.goal, c, &mut out);
         if let [lexeme, ..] = out.as_slice() {
             self.tokens = self.tokens.wrapping_add(1);
-            self.goal = goal_behind(lexeme.token);
+            self.goal = goal_after(lexeme.token);
         }
     }
 
