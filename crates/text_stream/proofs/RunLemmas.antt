@@ -15,11 +15,6 @@ same_run p q (b ∷ piece) same bytes =
     ap (λ (t : Bool). cond t (1 + prefix_len p piece) 0) (same b (bytes 0))
     ∙ ap (λ (n : ℕ). cond (q b) (1 + n) 0) (same_run p q piece same (λ k. bytes (suc k)))
 
--- no byte is in no set
-pub no_run : (p : ℕ → Bool) (piece : List ℕ) → ((b : ℕ) → p b ≡ false) → prefix_len p piece ≡ 0
-no_run p [] none = refl
-no_run p (b ∷ piece) none = ap (λ (t : Bool). cond t (1 + prefix_len p piece) 0) (none b)
-
 -- the bytes of a run are in the set
 pub run_all : (p : ℕ → Bool) (piece : List ℕ) → list_all p (take (prefix_len p piece) piece) ≡ true
 run_all p [] = refl
