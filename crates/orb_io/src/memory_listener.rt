@@ -1,5 +1,5 @@
 //! A listener in memory.
-ghost use Rattle.std.specs.Prelude.{◌≡◌, ℕ, ◌≤◌, ◌<◌, ◌+◌, IsNone, IfSome, Some, None, length};
+ghost use Rattle.std.specs.Prelude.{◌≡◌, IsNone, IfSome, Some, None};
 ghost use Rattle.orb_io.specs.Told.{HasCause};
 ghost use Rattle.orb_io.specs.Listeners.{HandsOut, TakesNext, BindsInMemory, AcceptsInMemory, given_back, link_at, IsFirstPlace};
 ghost use Rattle.orb_io.specs.Memory.{fails_at};
