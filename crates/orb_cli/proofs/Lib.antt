@@ -2,3 +2,4 @@ pub mod AnswerLemmas
 pub mod CompleteLemmas
 pub mod WordLemmas
 pub mod TrialLemmas
+pub mod ServingLemmas

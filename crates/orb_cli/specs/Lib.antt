@@ -5,3 +5,5 @@ pub mod Answer
 pub mod Complete
 pub mod Report
 pub mod Trial
+pub mod Serving
+pub mod ServeWords

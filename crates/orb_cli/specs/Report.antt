@@ -4,6 +4,8 @@ use Rattle.http_exchange.specs.declared.refusals.BadKind.{BadKind}
 use Rattle.http_exchange.specs.declared.refusals.BadKind.TheVariants.{BadHead, RequestBody, BadMediaId, Interim, BadFraming, BadChunk}
 use Rattle.orb_cli.specs.declared.outcome.Outcome.{Outcome}
 use Rattle.orb_cli.specs.declared.outcome.Outcome.TheVariants as outcomes
+use Rattle.orb_cli.specs.declared.outcome.ServeOutcome.{ServeOutcome}
+use Rattle.orb_cli.specs.declared.outcome.ServeOutcome.TheVariants as serving
 
 -- the program's status
 abbrev pub status_of : Outcome → ℕ
@@ -47,3 +49,21 @@ line_of outcomes.Endless = line_text (codes "endless")
 line_of outcomes.ReadFault = line_text (codes "read fault")
 line_of outcomes.WriteFault = line_text (codes "write fault")
 line_of outcomes.NoMemory = line_text (codes "no memory")
+
+-- the program's status where it served connections
+abbrev pub serve_status_of : ServeOutcome → ℕ
+serve_status_of serving.Done = 0
+serve_status_of serving.Usage = 1
+serve_status_of serving.BindFault = 5
+serve_status_of serving.AcceptFault = 5
+serve_status_of serving.WriteFault = 6
+serve_status_of serving.NoMemory = 7
+
+-- its line on standard error
+abbrev pub serve_line_of : ServeOutcome → List ℕ
+serve_line_of serving.Done = []
+serve_line_of serving.Usage = line_text (codes "words refused")
+serve_line_of serving.BindFault = line_text (codes "bind fault")
+serve_line_of serving.AcceptFault = line_text (codes "accept fault")
+serve_line_of serving.WriteFault = line_text (codes "write fault")
+serve_line_of serving.NoMemory = line_text (codes "no memory")

@@ -1,14 +1,17 @@
-//! The law that makes the answers of [`crate::run`] complete.
+//! The laws that make the answers of the top calls complete.
 ghost use Rattle.std.specs.Prelude.{◌≡◌, ℕ, List, Option, Some};
-ghost use Rattle.orb_io.specs.Told.{Rose};
+ghost use Rattle.orb_io.specs.Told.{Told, Rose};
 ghost use Rattle.orb_engine.specs.Recording.{Recording};
 ghost use Rattle.orb_engine.specs.Complete.{IsWholeRecording};
 ghost use Rattle.command_line.specs.declared.asked.Job.{Job};
 ghost use Rattle.command_line.specs.declared.asked.Policy.{Policy};
-ghost use Rattle.command_line.specs.Taken.{IsTaken, Judge, Trial, Mime};
+ghost use Rattle.command_line.specs.Taken.{Text, IsTaken, Judge, Trial, Mime, Serve};
 ghost use Rattle.orb_cli.specs.declared.outcome.Outcome.{Outcome};
+ghost use Rattle.orb_cli.specs.declared.outcome.ServeOutcome.{ServeOutcome};
 ghost use Rattle.orb_cli.specs.Words.{settings_of};
 ghost use Rattle.orb_cli.specs.Answer.{Answers, Ran, HasCauses};
+ghost use Rattle.orb_cli.specs.Serving.{HasServeCauses, IsAllServed};
+ghost use Rattle.orb_cli.specs.ServeWords.{IsServeAnswer};
 ghost use Rattle.orb_cli.specs.Complete.{IsComplete, IsCompleteText, IsCompleteTrial};
 
 /// Law: where no count of faults rose, [`crate::run`] answers `Done`, or `NoMemory` with nothing read and written.
@@ -36,4 +39,17 @@ pub fn completeness()
         → HasCauses source source' sink sink' answer
         → ¬ (Rose sink sink')
         → IsCompleteTrial seed count wrote answer }
+{}
+
+/// Law: where no count of faults rose, [`crate::serve`] answers words that ask for it with `Done` and all connections
+/// served and logged, or with `NoMemory` and nothing done.
+pub fn serving_completeness()
+    ensures { (words : List Text) (address : Text) (count : ℕ)
+        (handed handed' : Option ℕ) (put put' : Told)
+        (bind bind' accept accept' log log' : ℕ) (answer : ServeOutcome)
+        → IsTaken words (Serve address count)
+        → IsServeAnswer words handed handed' put put' answer
+        → HasServeCauses bind bind' accept accept' log log' answer
+        → ¬ (Rose bind bind') → ¬ (Rose accept accept') → ¬ (Rose log log')
+        → IsAllServed count handed handed' put put' answer }
 {}

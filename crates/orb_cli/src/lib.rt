@@ -5,6 +5,10 @@
 //! answer says of the bytes read and written and of the faults, `Complete` when the answer is `Done`,
 //! and `Report` the status and the line. What a recording is, where it ends and what is written of it
 //! stands in the definitions of `orb_engine`.
+//!
+//! [`serve`] does the same over connections, one after the other, each by [`serve_link`].
+//! `specs/ServeWords` and `Serving` say what the words, the listener and the log have to do with its
+//! answer.
 #![tactic(auto)]
 
 mod commands;
@@ -13,13 +17,17 @@ mod laws;
 mod mime_word;
 mod outcome;
 mod report;
+mod serve_words;
+mod serving;
 #[cfg(test)]
 mod tests;
 mod top;
 mod trial_word;
 
-pub use laws::completeness;
-pub use outcome::Outcome;
-pub use report::outcome_line;
+pub use laws::{completeness, serving_completeness};
+pub use outcome::{Outcome, ServeOutcome};
+pub use report::{outcome_line, serve_outcome_line};
+pub use serve_words::serve;
+pub use serving::serve_link;
 pub use top::run;
 pub use trial_word::trial_run;

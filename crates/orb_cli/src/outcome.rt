@@ -1,4 +1,4 @@
-//! How a run ends.
+//! How a run ends, and how serving does.
 ghost use Rattle.std.specs.Prelude.{◌≡◌};
 ghost use Rattle.orb_cli.specs.Outcomes.{outcome_of};
 
@@ -27,6 +27,23 @@ pub enum Outcome {
     /// The sink failed.
     WriteFault,
     /// There was no memory for the run: nothing was read or written.
+    NoMemory,
+}
+
+/// How serving connections ended.
+#[derive(Clone, Copy, Debug, PartialEq, Eq)]
+pub enum ServeOutcome {
+    /// The stated number of connections was served.
+    Done,
+    /// The words are not taken: nothing was bound or written.
+    Usage,
+    /// The listener failed to take the address: nothing was written.
+    BindFault,
+    /// The listener failed to hand out a connection.
+    AcceptFault,
+    /// The log failed.
+    WriteFault,
+    /// There was no memory for the engine: nothing was bound or written.
     NoMemory,
 }
 

@@ -1,8 +1,8 @@
 //! What the program says of an outcome.
 ghost use Rattle.std.specs.Prelude.{◌≡◌, ◌≤◌, length};
-ghost use Rattle.orb_cli.specs.Report.{status_of, kind_name, line_of, line_text, line_text_at};
+ghost use Rattle.orb_cli.specs.Report.{status_of, kind_name, line_of, line_text, line_text_at, serve_status_of, serve_line_of};
 
-use crate::outcome::Outcome;
+use crate::outcome::{Outcome, ServeOutcome};
 use arrayvec::ArrayVec;
 use http_exchange::BadKind;
 use orb_bytes::{decimal, extend};
@@ -40,6 +40,35 @@ pub fn outcome_line(outcome: &Outcome) -> ArrayVec<u8, 96>
         Outcome::ReadFault => line(b"read fault"),
         Outcome::WriteFault => line(b"write fault"),
         Outcome::NoMemory => line(b"no memory"),
+    }
+}
+
+impl ServeOutcome {
+    /// The program's status where it served connections: 0 where all went well.
+    pub fn status(&self) -> u8
+        ensures { result ≡ serve_status_of self.now }
+    {
+        match self {
+            ServeOutcome::Done => 0,
+            ServeOutcome::Usage => 1,
+            ServeOutcome::BindFault | ServeOutcome::AcceptFault => 5,
+            ServeOutcome::WriteFault => 6,
+            ServeOutcome::NoMemory => 7,
+        }
+    }
+}
+
+/// The line for standard error where the program served connections, with its line feed: empty where all went well.
+pub fn serve_outcome_line(outcome: &ServeOutcome) -> ArrayVec<u8, 96>
+    ensures { result.items ≡ serve_line_of outcome.now }
+{
+    match outcome {
+        ServeOutcome::Done => ArrayVec::new(),
+        ServeOutcome::Usage => line(b"words refused"),
+        ServeOutcome::BindFault => line(b"bind fault"),
+        ServeOutcome::AcceptFault => line(b"accept fault"),
+        ServeOutcome::WriteFault => line(b"write fault"),
+        ServeOutcome::NoMemory => line(b"no memory"),
     }
 }
 

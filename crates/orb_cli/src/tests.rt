@@ -1,5 +1,5 @@
 //! Recordings and words through [`run`], with the answers that are owed.
-use crate::{Outcome, outcome_line, run};
+use crate::{Outcome, ServeOutcome, outcome_line, run, serve_outcome_line};
 use http_exchange::BadKind;
 use orb_bytes::{decimal, read_decimal};
 use orb_io::{MemorySink, MemorySource};
@@ -820,5 +820,21 @@ fn outcomes_have_their_status_and_line(rt: HostRuntime) {
     for (outcome, status, line) in owed {
         assert_eq!(rt; outcome.status(), status);
         assert!(rt; outcome_line(&outcome).as_slice() == line, "{outcome:?}");
+    }
+}
+
+#[test]
+fn answers_to_serve_have_their_status_and_line(rt: HostRuntime) {
+    let owed: [(ServeOutcome, u8, &[u8]); 3] = [
+        (ServeOutcome::Done, 0, b""),
+        (ServeOutcome::BindFault, 5, b"orb: bind fault\n"),
+        (ServeOutcome::AcceptFault, 5, b"orb: accept fault\n"),
+    ];
+    for (outcome, status, line) in owed {
+        assert_eq!(rt; outcome.status(), status);
+        assert!(rt;
+            serve_outcome_line(&outcome).as_slice() == line,
+            "{outcome:?}"
+        );
     }
 }
