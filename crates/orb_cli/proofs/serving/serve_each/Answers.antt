@@ -1,4 +1,4 @@
-use Rattle.std.proofs.Common.{◌∙◌, ◌+◌, Result, Ok, Err, arith}
+use Rattle.std.proofs.Common.{◌+◌, Result, Ok, Err, arith}
 use Rattle.orb_io.specs.declared.outside.Failed.{Failed}
 use Rattle.orb_cli.proofs.ServingLemmas.{Serves-pushed}
 use Rattle.orb_cli.proofs.serving.serve_each.Goals as goal
@@ -13,9 +13,9 @@ loop-before-preserved g c =
           (g.L.Listener.handed c.accept.new.self) (g.L.Listener.handed c.give_back.new.self) c.loop-before.before c.in-Ok.link said.0
           put (g.O.Sink.told c.args.log.now) (g.O.Sink.told c.loop-before.log) (g.O.Sink.told c.serve_link-logged.new.log) i.serves
           c.in-Ok.ensures.handed c.give_back.ensures.handed said.2.bytes;
-      binds = c.give_back.ensures.binds ∙ c.in-Ok.ensures.binds ∙ i.binds;
-      accepts = c.give_back.ensures.accepts ∙ c.in-Ok.ensures.cause ∙ i.accepts;
-      log = said.2.cause ∙ i.log;
+      binds = omega (arith, c.give_back.ensures.binds, c.in-Ok.ensures.binds, i.binds);
+      accepts = omega (arith, c.give_back.ensures.accepts, c.in-Ok.ensures.cause, i.accepts);
+      log = omega (arith, said.2.cause, i.log);
     }
 
 pub returns-in-Err-clause-served : goal.returns-in-Err-clause-served
