@@ -1,25 +1,24 @@
-//! The program: standard input and standard output under [`orb_cli::run`]. The line of the outcome
-//! goes to standard error, and the program ends with its status.
+//! The program: standard input and standard output under [`orb_cli::run`], and sockets under [`orb_cli::serve`] where the
+//! first word is `serve`. The line of the outcome goes to standard error, and the program ends with its status.
 #![tactic(auto)]
 
-use orb_cli::{Outcome, outcome_line, run};
-use orb_io::{StdSink, StdSource};
+use orb_cli::{Outcome, outcome_line, run, serve, serve_outcome_line};
+use orb_io::{StdSink, StdSource, TcpListening};
 use std::env;
 use std::io::{self, ErrorKind, Write};
 use std::process::ExitCode;
 
 fn main(rt: HostRuntime) -> ExitCode {
-    let outcome = match words(&rt) {
+    match words(&rt) {
         Ok(words) => {
-            let mut input = StdSource::new(rt.reader());
-            let mut output = StdSink::new(io::writer(&rt));
-            run(rt.alloc(), words.as_slice(), &mut input, &mut output)
+            if words.first().is_some_and(|word| word.as_str() == "serve") {
+                serve_words(&rt, words.as_slice())
+            } else {
+                run_words(&rt, words.as_slice())
+            }
         }
-        Err(outcome) => outcome,
-    };
-    // Where standard error can't be written, the status alone tells.
-    let _ = rt.stderr().write_all(outcome_line(&outcome).as_slice());
-    ExitCode::from(outcome.status())
+        Err(outcome) => end(&rt, outcome_line(&outcome).as_slice(), outcome.status()),
+    }
 }
 
 /// The words of the command line without the program's name. Words that aren't text are refused.
@@ -31,4 +30,28 @@ fn words(rt: &HostRuntime) -> Result<Vec<String>, Outcome> {
     args.skip(1)
         .collect(rt.alloc())
         .map_err(|_| Outcome::NoMemory)
+}
+
+fn run_words(rt: &HostRuntime, words: &[String]) -> ExitCode {
+    let mut input = StdSource::new(rt.reader());
+    let mut output = StdSink::new(io::writer(rt));
+    let outcome = run(rt.alloc(), words, &mut input, &mut output);
+    end(rt, outcome_line(&outcome).as_slice(), outcome.status())
+}
+
+fn serve_words(rt: &HostRuntime, words: &[String]) -> ExitCode {
+    let mut listener = TcpListening::new(rt);
+    let mut log = StdSink::new(io::writer(rt));
+    let outcome = serve(rt.alloc(), words, &mut listener, &mut log);
+    end(
+        rt,
+        serve_outcome_line(&outcome).as_slice(),
+        outcome.status(),
+    )
+}
+
+/// Says the line, and gives the status to end with. Where standard error can't be written, the status alone tells.
+fn end(rt: &HostRuntime, line: &[u8], status: u8) -> ExitCode {
+    let _ = rt.stderr().write_all(line);
+    ExitCode::from(status)
 }
