@@ -26,24 +26,12 @@ use Rattle.trial.proofs.TableLemmas.{IsSmall, small_has_room, keeps_is_small}
 -- ---- the parts of each kind
 
 abbrev asks_of : Kind → (id : ℕ) → RequestHead
-asks_of Javascript id = plain_asks
-asks_of Nosniff id = plain_asks
-asks_of Png id = plain_asks
-asks_of Script id = plain_asks
-asks_of Json id = plain_asks
-asks_of Text id = plain_asks
-asks_of Jpeg id = plain_asks
 asks_of Media id = media_asks id
+asks_of _ id = plain_asks
 
 abbrev line_for : Kind → StatusLine
-line_for Javascript = ok
-line_for Nosniff = ok
-line_for Png = ok
-line_for Script = ok
-line_for Json = ok
-line_for Text = ok
-line_for Jpeg = ok
 line_for Media = partial
+line_for _ = ok
 
 abbrev essence_of : Kind → Option (List ℕ × List ℕ)
 essence_of Javascript = Some (codes "text", codes "javascript")
@@ -56,14 +44,8 @@ essence_of Jpeg = Some (codes "image", codes "jpeg")
 essence_of Media = Some (codes "video", codes "ogg")
 
 abbrev frame_for : Kind → (n : ℕ) → BodyFrame
-frame_for Javascript n = Length n
-frame_for Nosniff n = Length n
-frame_for Png n = Length n
-frame_for Script n = Length n
-frame_for Json n = Length n
-frame_for Text n = Length n
-frame_for Media n = Length n
 frame_for Jpeg n = Chunked
+frame_for _ n = Length n
 
 abbrev request_for : Kind → (id : ℕ) → RequestText
 request_for kind id = record { bytes = head_text request_line (request_of kind id); asks = asks_of kind id }
@@ -117,36 +99,18 @@ unfolding body_of
 jpeg_length m small = omega (arith, length-repeat m (nul ∷ []))
 
 sent_fits : (kind : Kind) (m : ℕ) → m < 1009 → length (sent_of kind (body_of kind m)) ≤ 20000
-sent_fits Javascript m small = omega (arith, body_length Javascript m small)
-sent_fits Nosniff m small = omega (arith, body_length Nosniff m small)
-sent_fits Png m small = omega (arith, body_length Png m small)
-sent_fits Script m small = omega (arith, body_length Script m small)
-sent_fits Json m small = omega (arith, body_length Json m small)
-sent_fits Text m small = omega (arith, body_length Text m small)
-sent_fits Media m small = omega (arith, body_length Media m small)
 sent_fits Jpeg m small = sent_length (body_of Jpeg m) (omega (arith, jpeg_length m small))
+sent_fits kind m small = omega (arith, body_length kind m small)
 
 -- ---- heads
 
 is_request : (kind : Kind) (id : ℕ) → id < 16 → IsRequestHead (request_for kind id)
-is_request Javascript id small = plain_is_request
-is_request Nosniff id small = plain_is_request
-is_request Png id small = plain_is_request
-is_request Script id small = plain_is_request
-is_request Json id small = plain_is_request
-is_request Text id small = plain_is_request
-is_request Jpeg id small = plain_is_request
 is_request Media id small = media_is_request id small
+is_request _ id small = plain_is_request
 
 has_room : (kind : Kind) (id : ℕ) (table : States) → IsSmall table → IsRefusedId table (heads.id_of (asks_of kind id)) → ⊥
-has_room Javascript id table small full = full
-has_room Nosniff id table small full = full
-has_room Png id table small full = full
-has_room Script id table small full = full
-has_room Json id table small full = full
-has_room Text id table small full = full
-has_room Jpeg id table small full = full
 has_room Media id table small full = small_has_room table id small full
+has_room _ id table small full = full
 
 says : (kind : Kind) (n : ℕ) → n < 10000 → Says (line_for kind) (fields_of kind n) (essence_of kind) (frame_for kind n)
 says Javascript n small = responses.javascript_says n small
@@ -159,14 +123,8 @@ says Jpeg n small = responses.jpeg_says n small
 says Media n small = responses.media_says n small
 
 no_head : (kind : Kind) (id : ℕ) → (asks_of kind id).is_head ≡ false
-no_head Javascript id = refl
-no_head Nosniff id = refl
-no_head Png id = refl
-no_head Script id = refl
-no_head Json id = refl
-no_head Text id = refl
-no_head Jpeg id = refl
 no_head Media id = refl
+no_head _ id = refl
 
 are_heads : (kind : Kind) (m id : ℕ) (table : States) → m < 1009 → id < 16 → IsSmall table → AreHeads table (heads_for kind m id)
 are_heads kind m id table short low small =
@@ -180,24 +138,12 @@ are_heads kind m id table short low small =
 -- ---- bodies
 
 is_prefix : (kind : Kind) (body : List ℕ) → IsBodyPrefix (frame_for kind (length body)) (sent_of kind body) body
-is_prefix Javascript body = (omega arith, refl)
-is_prefix Nosniff body = (omega arith, refl)
-is_prefix Png body = (omega arith, refl)
-is_prefix Script body = (omega arith, refl)
-is_prefix Json body = (omega arith, refl)
-is_prefix Text body = (omega arith, refl)
-is_prefix Media body = (omega arith, refl)
 is_prefix Jpeg body = sent_is_prefix body
+is_prefix _ body = (omega arith, refl)
 
 is_whole : (kind : Kind) (body : List ℕ) → IsWhole (frame_for kind (length body)) (sent_of kind body)
-is_whole Javascript body = refl
-is_whole Nosniff body = refl
-is_whole Png body = refl
-is_whole Script body = refl
-is_whole Json body = refl
-is_whole Text body = refl
-is_whole Media body = refl
 is_whole Jpeg body = sent_is_whole body
+is_whole _ body = refl
 
 -- ---- the exchange
 
@@ -211,14 +157,8 @@ is_exchange s table kind m id short low small = record {
 }
 
 same_line : (kind : Kind) → status_line kind ≡ line_text (line_for kind)
-same_line Javascript = refl
-same_line Nosniff = refl
-same_line Png = refl
-same_line Script = refl
-same_line Json = refl
-same_line Text = refl
-same_line Jpeg = refl
 same_line Media = refl
+same_line _ = refl
 
 pub spells : (s : Settings) (table : States) (kind : Kind) (m id : ℕ) (rest : List ℕ)
     → exchange_text kind m id ++ rest ≡ spell_exchange (exchange_for s table kind m id) rest
@@ -233,15 +173,9 @@ spells s table kind m id rest =
 
 pub table_stays_small : (s : Settings) (table : States) (kind : Kind) (m id : ℕ) → id < 16 → IsSmall table
     → IsSmall (table_after table (exchange_for s table kind m id))
-table_stays_small s table Javascript m id low small = small
-table_stays_small s table Nosniff m id low small = small
-table_stays_small s table Png m id low small = small
-table_stays_small s table Script m id low small = small
-table_stays_small s table Json m id low small = small
-table_stays_small s table Text m id low small = small
-table_stays_small s table Jpeg m id low small = small
 table_stays_small s table Media m id low small =
     keeps_is_small table id (state_after table (exchange_for s table Media m id)) low small
+table_stays_small s table _ m id low small = small
 
 pub response_fits : (kind : Kind) (n : ℕ) → n < 10000 → length (head_text (status_line kind) (fields_of kind n)) ≤ 384
 response_fits kind n small =

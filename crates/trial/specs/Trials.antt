@@ -42,14 +42,8 @@ body_of Media m = (codes "OggS" ++ (nul ∷ [])) ++ repeat m (nul ∷ [])
 
 -- the body as it is sent
 abbrev pub sent_of : Kind → (body : List ℕ) → List ℕ
-sent_of Javascript body = body
-sent_of Nosniff body = body
-sent_of Png body = body
-sent_of Script body = body
-sent_of Json body = body
-sent_of Text body = body
 sent_of Jpeg body = chunked_text 100 body
-sent_of Media body = body
+sent_of _ body = body
 
 -- the request line, and the fields of a request: a fetch whose response is opaque, and for media one with an id
 abbrev pub request_line : List ℕ
@@ -66,25 +60,13 @@ media_request id =
     ∷ []
 
 abbrev pub request_of : Kind → (id : ℕ) → List (List ℕ × List ℕ)
-request_of Javascript id = plain_request
-request_of Nosniff id = plain_request
-request_of Png id = plain_request
-request_of Script id = plain_request
-request_of Json id = plain_request
-request_of Text id = plain_request
-request_of Jpeg id = plain_request
 request_of Media id = media_request id
+request_of _ id = plain_request
 
 -- the status line of a response
 abbrev pub status_line : Kind → List ℕ
-status_line Javascript = codes "HTTP/1.1 200 OK"
-status_line Nosniff = codes "HTTP/1.1 200 OK"
-status_line Png = codes "HTTP/1.1 200 OK"
-status_line Script = codes "HTTP/1.1 200 OK"
-status_line Json = codes "HTTP/1.1 200 OK"
-status_line Text = codes "HTTP/1.1 200 OK"
-status_line Jpeg = codes "HTTP/1.1 200 OK"
 status_line Media = codes "HTTP/1.1 206 Partial Content"
+status_line _ = codes "HTTP/1.1 200 OK"
 
 -- the fields of a response
 abbrev pub content_type : List ℕ → List ℕ × List ℕ
