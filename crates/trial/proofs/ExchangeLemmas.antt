@@ -18,9 +18,10 @@ use Rattle.trial.specs.declared.kinds.Kind.TheVariants.{Javascript, Nosniff, Png
 use Rattle.trial.specs.Texts.{head_text}
 use Rattle.trial.specs.Trials.{request_line, request_of, status_line, fields_of, body_of, sent_of, exchange_text}
 use Rattle.trial.proofs.Requests.{plain_asks, media_asks, plain_is_request, media_is_request}
-use Rattle.trial.proofs.Responses as responses
-use Rattle.trial.proofs.Responses.{StatusLine, line_text, ok, partial, Says, text_of, IsResponseHead-text}
-use Rattle.trial.proofs.ChunkLemmas.{sent_is_whole, sent_is_prefix, sent_length}
+use Rattle.trial.proofs.ResponseKinds as responses
+use Rattle.trial.proofs.ResponseKinds.{ok, partial}
+use Rattle.trial.proofs.Responses.{StatusLine, line_text, Says, text_of, IsResponseHead-text}
+use Rattle.trial.proofs.ChunkLemmas.{sent_is_whole, sent_is_front, sent_length}
 use Rattle.trial.proofs.TableLemmas.{IsSmall, small_has_room, keeps_is_small}
 
 -- ---- the parts of each kind

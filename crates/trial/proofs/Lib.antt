@@ -2,6 +2,7 @@ pub mod Decimals
 pub mod HeadLemmas
 pub mod Requests
 pub mod Responses
+pub mod ResponseKinds
 pub mod ChunkLemmas
 pub mod TableLemmas
 pub mod ExchangeLemmas

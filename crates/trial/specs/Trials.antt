@@ -1,7 +1,7 @@
 -- The recording of the self-test: exchanges that are numbered on from a seed, of eight kinds in turn.
 use Rattle.std.specs.Prelude.{ℕ, zero, suc, ◌+◌, ◌-◌, ◌/◌, ◌%◌, List, [], ◌∷◌, ◌++◌, length, get_or, codes, decimal}
 use Rattle.std.specs.List.{repeat}
-use Rattle.orb_bytes.specs.Ascii.{nul, solidus, crlf}
+use Rattle.orb_bytes.specs.Ascii.{nul, line_feed, solidus, crlf}
 use Rattle.trial.specs.declared.kinds.Kind.{Kind}
 use Rattle.trial.specs.declared.kinds.Kind.TheVariants.{Javascript, Nosniff, Png, Script, Json, Text, Jpeg, Media}
 use Rattle.trial.specs.Texts.{head_text, chunked_text}
@@ -24,12 +24,12 @@ id_of number = number / 8 % 16
 
 -- the signatures of PNG and JPEG (WHATWG MIME Sniffing 6.1)
 abbrev pub png_signature : List ℕ
-png_signature = 0x89 ∷ (codes "PNG" ++ (crlf ++ (0x1A ∷ 0x0A ∷ [])))
+png_signature = 0x89 ∷ (codes "PNG" ++ (crlf ++ (0x1A ∷ line_feed ∷ [])))
 
 abbrev pub jpeg_signature : List ℕ
 jpeg_signature = 0xFF ∷ 0xD8 ∷ 0xFF ∷ []
 
--- the content of a response, with the size m
+-- the content of a response, repeated as far as m says. That of Media begins as Ogg does (WHATWG MIME Sniffing 6.2)
 unfoldable pub body_of : Kind → (m : ℕ) → List ℕ
 body_of Javascript m = repeat (m + 1) (codes "x;")
 body_of Nosniff m = repeat (m + 1) (codes "a")

@@ -71,7 +71,8 @@ fn append_type(text: &mut ArrayVec<u8, ROOM>, essence: &[u8])
 fn append_typed(text: &mut ArrayVec<u8, ROOM>, essence: &[u8], n: u64)
     requires room { length text.old.items ≤ 128 }
     requires essence { length essence.now ≤ 32 }
-    ensures { text.new.items ≡ text.old.items ++ head_text (codes "HTTP/1.1 200 OK") (content_type essence.now ∷ content_length n ∷ []) }
+    ensures { text.new.items ≡ text.old.items
+        ++ head_text (codes "HTTP/1.1 200 OK") (content_type essence.now ∷ content_length n ∷ []) }
 {
     append_start(text, b"HTTP/1.1 200 OK");
     append_type(text, essence);

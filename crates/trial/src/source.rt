@@ -10,7 +10,7 @@ use arrayvec::ArrayVec;
 use orb_io::{Failed, Source};
 use std::marker::Model;
 
-/// The recording of the self-test, which no pull fails to give. It takes no memory: it holds one exchange at a time.
+/// The bytes of the self-test's recording, none of whose pulls fails. It holds one exchange at a time, and takes no memory.
 #[derive(Drop)]
 pub struct TrialSource {
     // The exchange that is being given, and how much of it was.
