@@ -63,7 +63,7 @@ impl Source for TrialSource {
         ensures bound { ReadsAtMost result buf.new }
         ensures bytes { Pulls (Some self.old) (Some self.new) result buf.new }
         ensures cause { HasCause 0 0 result }
-        ensures gives { IsOk result }
+        ensures ok { IsOk result }
     {
         if self.offset == self.text.len() && self.count > 0 {
             write_exchange(&mut self.text, self.number);
