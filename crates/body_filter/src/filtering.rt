@@ -182,12 +182,7 @@ impl Filter {
     ghost use Rattle.body_filter.specs.Reads.{HasRead, CanFeed, IsSpent, IsMadeFor, limit_of, ended_by};
 
     /// Begins the response whose decider is new.
-    fn start<O: Sink>(
-        &mut self,
-        head: &[u8],
-        chunked: bool,
-        sink: &mut O,
-    ) -> Result<(), WriteFault>
+    fn start<O: Sink>(&mut self, head: &[u8], chunked: bool, sink: &mut O) -> Result<(), WriteFault>
         requires short { length head.now ≤ 65536 }
         requires made { IsMadeFor self.old.decider (limit_of self.old) }
         ensures delivers { (h : Case) → DeciderHasRead self.old.decider h []

@@ -37,6 +37,6 @@ pub use refusals::BadKind;
 pub use request::{RequestHead, read_request};
 pub use response::{ResponseHead, read_response};
 pub use settled::{
-    prefixes_of_bodies, head_length_stays, one_request, one_response, unframed_is_prefix,
+    head_length_stays, one_request, one_response, prefixes_of_bodies, unframed_is_prefix,
 };
 pub use unframing::Unframer;

@@ -6,11 +6,7 @@ use orb_engine::{Job, Settings};
 use response_rules::Policy;
 
 /// The settings that the words ask for.
-pub(crate) fn settings(
-    job: command_line::Job,
-    policy: command_line::Policy,
-    limit: u64,
-) -> Settings
+pub(crate) fn settings(job: command_line::Job, policy: command_line::Policy, limit: u64) -> Settings
     ensures { result ≡ settings_of job policy limit }
 {
     Settings {

@@ -767,6 +767,7 @@ fn other_words_are_refused(rt: HostRuntime) -> Result<(), Fail> {
         run_alone(rt.alloc(), &["mime", "-a/b"])?.0,
         run_alone(rt.alloc(), &["mime", "a/b", "c/d"])?.0,
         run_alone(rt.alloc(), &["serve", "127.0.0.1:0", "1"])?.0,
+        run_alone(rt.alloc(), &["trial", "0", "0"])?.0,
         run_alone(rt.alloc(), &["filter", "--limit", "1023"])?.0,
         run_alone(rt.alloc(), &["filter", "--limit=1024", "--limit=1024"])?.0,
     ];
@@ -793,6 +794,23 @@ fn mime_writes_a_line(rt: HostRuntime) -> Result<(), Fail> {
         let (outcome, sink) = run_alone(rt.alloc(), &["mime", text])?;
         assert_eq!(rt; outcome, Outcome::Done);
         assert!(rt; sink.bytes() == line, "{text}");
+    }
+    Ok(())
+}
+
+#[test]
+fn trial_writes_a_line(rt: HostRuntime) -> Result<(), Fail> {
+    let cases: [(&str, &[u8]); 2] = [
+        ("8", b"exchanges 8 allow 5 block 3 written 646\n"),
+        (
+            "8072",
+            b"exchanges 8072 allow 5045 block 3027 written 7233237\n",
+        ),
+    ];
+    for (count, line) in cases {
+        let (outcome, sink) = run_alone(rt.alloc(), &["trial", "0", count])?;
+        assert_eq!(rt; outcome, Outcome::Done);
+        assert!(rt; sink.bytes() == line, "{count}");
     }
     Ok(())
 }

@@ -77,3 +77,51 @@ fn line(exchanges: u64, allowed: u64, blocked: u64, written: u64) -> ArrayVec<u8
     extend(&mut line, b"\n");
     line
 }
+
+#[cfg(test)]
+mod tests {
+    use super::*;
+    use orb_io::MemorySink;
+    use std::test::Fail;
+
+    /// How many bytes are written of each kind, where each size from 0 to 1,008 comes once.
+    const WRITTEN: [u64; 8] = [
+        1_091_186, 76_684, 556_891, 4_157_952, 61_549, 67_603, 597_062, 624_310,
+    ];
+
+    #[test]
+    fn an_exchange_of_each_kind_is_written(rt: HostRuntime) -> Result<(), Fail> {
+        let alloc = rt.alloc();
+        let mut engine = Engine::open(alloc, settings(Job::Filter, Policy::Orb, DEFAULT_LIMIT))?;
+        let mut sink = MemorySink::open(alloc, 1000, Vec::new(alloc))?;
+        let outcome = trial_run(&mut engine, 0, 8, &mut sink);
+        assert_eq!(rt; outcome, EngineOutcome::Done);
+        assert_eq!(rt; sink.bytes().len(), 646);
+        assert_eq!(rt; (engine.allowed(), engine.blocked()), (5, 3));
+        Ok(())
+    }
+
+    #[test]
+    fn each_kind_writes_so_much(rt: HostRuntime) -> Result<(), Fail> {
+        let mut engine = Engine::open(
+            rt.alloc(),
+            settings(Job::Filter, Policy::Orb, DEFAULT_LIMIT),
+        )?;
+        let mut written = [0u64; 8];
+        let mut counts = (0u64, 0u64);
+        for number in 0..8072u64 {
+            let mut sink = CountingSink::new();
+            let outcome = trial_run(&mut engine, number, 1, &mut sink);
+            assert_eq!(rt; outcome, EngineOutcome::Done);
+            let kind = (number % 8) as usize;
+            written[kind] = written[kind].saturating_add(sink.count());
+            counts = (
+                counts.0.saturating_add(engine.allowed()),
+                counts.1.saturating_add(engine.blocked()),
+            );
+        }
+        assert_eq!(rt; written, WRITTEN);
+        assert_eq!(rt; counts, (5045, 3027));
+        Ok(())
+    }
+}

@@ -64,8 +64,11 @@ spelled-longer a b c d = omega (arith, length-append a (b ++ (c ++ d)), length-a
 rest-short : (exchanges : List Exchange) (rest : List ℕ) → length rest ≤ length (spell_exchanges exchanges rest)
 rest-short [] rest = omega arith
 rest-short (i ∷ exchanges) rest =
-    omega (arith, rest-short exchanges rest,
-      spelled-longer i.heads.request.bytes i.heads.response.bytes i.sent (spell_exchanges exchanges rest))
+    omega (
+      arith,
+      rest-short exchanges rest,
+      spelled-longer i.heads.request.bytes i.heads.response.bytes i.sent (spell_exchanges exchanges rest),
+    )
 
 pub output-short : (s : Settings) (m : List ℕ) (r : Recording) (ended : Bool) → IsRecording s m r → length r.exchanges + 1 < 2 ^ 64
     → length m < 2 ^ 64 → length (output_of s r ended) ≤ 2 * length m + 128 * (length r.exchanges + 1)

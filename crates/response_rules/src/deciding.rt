@@ -92,9 +92,7 @@ impl Decider {
         ensures one { (essence : Option (List ℕ × List ℕ)) × HasEssence (pairs_in fields.now) essence }
         ensures kept { scratch.new ≡ scratch.old }
     {
-        Decider::of(Facts::read(
-            policy, state, opaque, status, fields, scratch, limit,
-        ))
+        Decider::of(Facts::read(policy, state, opaque, status, fields, scratch, limit))
     }
 
     /// A decider for a response with these facts.

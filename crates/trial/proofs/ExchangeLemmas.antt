@@ -21,7 +21,7 @@ use Rattle.trial.proofs.Requests.{plain_asks, media_asks, plain_is_request, medi
 use Rattle.trial.proofs.ResponseKinds as responses
 use Rattle.trial.proofs.ResponseKinds.{ok, partial}
 use Rattle.trial.proofs.Responses.{StatusLine, line_text, Says, text_of, IsResponseHead-text}
-use Rattle.trial.proofs.ChunkLemmas.{sent_is_whole, sent_is_front, sent_length}
+use Rattle.trial.proofs.ChunkLemmas.{sent_is_whole, sent_is_prefix, sent_length}
 use Rattle.trial.proofs.TableLemmas.{IsSmall, small_has_room, keeps_is_small}
 
 -- ---- the parts of each kind
