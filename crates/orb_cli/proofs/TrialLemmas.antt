@@ -1,5 +1,5 @@
 -- An engine that runs over the self-test.
-use Rattle.std.proofs.Common.{◌≡◌, ℕ, suc, ◌+◌, ◌*◌, ◌^◌, ◌<◌, ◌≤◌, ◌-◌, min, Bool, true, false, List, [], ◌∷◌, ◌++◌, length, length-append, Option, None, Some, refl, sym, ap, ◌∙◌, subst, arith}
+use Rattle.std.proofs.Common.{◌≡◌, ℕ, ◌+◌, ◌^◌, ◌<◌, ◌≤◌, ◌-◌, min, Bool, true, false, List, [], ◌++◌, length, Option, None, Some, refl, sym, ap, ◌∙◌, subst, arith}
 use Rattle.std.proofs.lemmas.List.{append-nil, append_assoc}
 use Rattle.std.proofs.lemmas.Option.{same_Some}
 use Rattle.std.proofs.lemmas.Bool.Decides.{nat_tests}
@@ -10,15 +10,12 @@ use Rattle.orb_engine.specs.declared.engine.Engine.{Engine}
 use Rattle.orb_engine.specs.declared.outcome.EngineOutcome.{EngineOutcome}
 use Rattle.orb_engine.specs.declared.outcome.EngineOutcome.TheVariants.{Done, Bad, Cut, HeadLimit, MediaFull, Endless, ReadFault, WriteFault}
 use Rattle.orb_engine.specs.Recording.{Recording, IsRecording}
-use Rattle.orb_engine.specs.Ends as ends
-use Rattle.orb_engine.specs.Ends.{stop_of}
 use Rattle.orb_engine.specs.Outputs.{output_of}
 use Rattle.orb_engine.specs.Reads.{IsStop, HaltCause}
 use Rattle.orb_engine.specs.Runs.{Ends, Fails, Ran as EngineRan, RunCauses, allowed_by, blocked_by, run_limit}
-use Rattle.orb_engine.specs.Complete.{IsWholeRecording}
 use Rattle.orb_engine.proofs.SizeLaws.{output-short}
 use Rattle.orb_engine.proofs.AnswerLaws.{one-exchanges, output-ends}
-use Rattle.orb_engine.proofs.CompleteLemmas.{ends_all, ends_no_other, open_not_done, whole_is_not_endless}
+use Rattle.orb_engine.proofs.CompleteLemmas.{ends_no_other, open_not_done, whole_is_not_endless}
 use Rattle.trial.specs.Trials.{trial_of}
 use Rattle.trial.specs.Recorded.{IsRecorded}
 use Rattle.trial.proofs.WholeLemmas.{is_recorded}

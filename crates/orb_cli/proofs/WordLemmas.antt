@@ -1,6 +1,5 @@
 -- From what the words ask for to what an answer says, and back.
-use Rattle.std.proofs.Common.{◌≡◌, ℕ, Bool, true, false, List, [], Option, refl, sym, ap, ◌∙◌, subst, arith}
-use Rattle.orb_io.specs.Told.{Loses}
+use Rattle.std.proofs.Common.{◌≡◌, ℕ, Bool, true, false, List, [], Option, ap, ◌∙◌, subst, arith}
 use Rattle.orb_io.proofs.ToldLemmas.{Loses-none}
 use Rattle.command_line.specs.declared.asked.Job.{Job}
 use Rattle.command_line.specs.declared.asked.Policy.{Policy}
@@ -9,7 +8,7 @@ use Rattle.command_line.proofs.TakenLemmas.{one_asked}
 use Rattle.orb_cli.specs.declared.outcome.Outcome.{Outcome}
 use Rattle.orb_cli.specs.declared.outcome.Outcome.TheVariants.{Done, Usage, Bad, Cut, HeadLimit, MediaFull, Endless, ReadFault, WriteFault, NoMemory}
 use Rattle.orb_cli.specs.Words.{settings_of, is_run, AreRefused}
-use Rattle.orb_cli.specs.Answer.{IsJudgeAnswer, IsMimeAnswer, IsTrialAnswer, IsAnswer, Answers, AnswersWords, Ran, Untouched}
+use Rattle.orb_cli.specs.Answer.{IsJudgeAnswer, IsMimeAnswer, IsTrialAnswer, IsAnswer, Answers, AnswersWords, Ran}
 
 -- what says another thing of an answer
 pub Ran-as : (P Q : (read : List ℕ) (ended : Bool) (wrote : List ℕ) → Outcome → Type 0)

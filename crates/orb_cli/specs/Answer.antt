@@ -1,5 +1,5 @@
 -- What an answer of `run` says of the bytes read and written, and of the counts of faults.
-use Rattle.std.specs.Prelude.{◌≡◌, ℕ, ◌<◌, ◌≤◌, Bool, true, false, List, [], ◌++◌, length, take, Option, Some, None}
+use Rattle.std.specs.Prelude.{◌≡◌, ℕ, ◌<◌, ◌≤◌, Bool, true, false, List, [], ◌++◌, length, take, Option}
 use Rattle.orb_io.specs.Told.{Loses, IsAtEnd, IsPrefix, Rose}
 use Rattle.orb_engine.specs.declared.settings.Settings.{Settings}
 use Rattle.orb_engine.specs.Recording.{Recording, IsRecording}

@@ -1,8 +1,7 @@
 -- How much is written of a recording.
-use Rattle.std.proofs.Common.{ℕ, ◌+◌, ◌*◌, ◌^◌, ◌<◌, ◌≤◌, Bool, true, false, ◌&&◌, List, [], ◌∷◌, ◌++◌, length, length-append, if◌then◌else◌, ap, arith, ◌≡◌}
+use Rattle.std.proofs.Common.{ℕ, ◌+◌, ◌*◌, ◌^◌, ◌<◌, ◌≤◌, Bool, true, false, ◌&&◌, List, [], ◌∷◌, ◌++◌, length, length-append, if◌then◌else◌, ap, arith}
 use Rattle.std.specs.FinMap as map
 use Rattle.media_state.specs.Table.{States}
-use Rattle.body_filter.specs.Responses.{Response}
 use Rattle.orb_engine.specs.declared.settings.Settings.{Settings}
 use Rattle.orb_engine.specs.Heads.{Heads, response_of, is_to_end}
 use Rattle.orb_engine.specs.Recording as cut

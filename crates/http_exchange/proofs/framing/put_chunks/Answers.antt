@@ -1,6 +1,5 @@
 use Rattle.std.proofs.Common.{refl, ◌∙◌, arith}
 use Rattle.std.proofs.lemmas.Result.{err_from_is_err_and}
-use Rattle.orb_io.proofs.CallLemmas.{HasCause-after}
 use Rattle.http_exchange.proofs.FramingLemmas.{gathers-shorter, cut-first, cut-more, cut-fault, cut-last, cut-rest}
 use Rattle.http_exchange.proofs.framing.put_chunks.Goals as goal
 

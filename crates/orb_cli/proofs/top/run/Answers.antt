@@ -1,6 +1,5 @@
-use Rattle.std.proofs.Common.{ℕ, List, [], map, string_bytes, refl}
+use Rattle.std.proofs.Common.{[], map, string_bytes}
 use Rattle.orb_io.proofs.GivesLemmas.{Gives-weaker}
-use Rattle.command_line.specs.Taken.{IsTaken, asked_of}
 use Rattle.orb_cli.proofs.WordLemmas.{Ran-unread, mime_words, trial_words}
 use Rattle.orb_cli.proofs.top.run.Goals as goal
 

@@ -1,6 +1,5 @@
-use Rattle.std.proofs.Common.{[], ℕ, List, refl, sym, subst, ◌∙◌}
+use Rattle.std.proofs.Common.{[], refl, ◌∙◌}
 use Rattle.orb_io.proofs.GivesLemmas.{Gives-of}
-use Rattle.orb_cli.specs.Trial.{IsTrialLine}
 use Rattle.orb_cli.proofs.TrialLemmas.{line_is}
 use Rattle.orb_cli.proofs.trial_word.trial.Goals as goal
 
