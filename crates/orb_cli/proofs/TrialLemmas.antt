@@ -126,10 +126,3 @@ line_is e s seed count allowed blocked zero_ m n line same few none gives allows
       is = h.is;
       are = is ∙ rw (allows ∙ h.counted.allowed, blocks ∙ h.counted.blocked, number ∙ size) refl;
     }
-
--- a sink that counts doesn't fail, and nothing else but `Done` comes
-pub only_done : (o : EngineOutcome) (e : Engine) (s : Settings) (seed count : ℕ) (old new : Told) → HaltCause o 0 0
-    → Gives old new [] (TrialAnswers o e s seed count) → o ≡ Done
-only_done Done e s seed count old new cause gives = refl
-only_done WriteFault e s seed count old new cause gives = absurd (omega (arith, cause.1))
-only_done o e s seed count old new cause gives = absurd gives.holds

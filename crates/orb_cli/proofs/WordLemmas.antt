@@ -36,25 +36,7 @@ Ran-unread P left answer wrote says = record {
   answers = says;
 }
 
--- of other words than those asked for, the words are refused
-pub refused_by : (words : List (List ℕ)) (asked : Asked) → IsTaken words asked → is_run asked ≡ false → AreRefused words
-refused_by words asked taken other again is = ap is_run (one_asked words again asked is taken) ∙ other
-
 -- the answers to words that are taken
-pub judged_words : (words : List (List ℕ)) (job : Job) (policy : Policy) (limit : ℕ) → IsTaken words (Judge job policy limit)
-    → (answer : Outcome) (read : List ℕ) (ended : Bool) (wrote : List ℕ)
-    → IsJudgeAnswer (settings_of job policy limit) read ended wrote answer → Answers words read ended wrote answer
-judged_words words job policy limit taken Usage read ended wrote says = absurd says
-judged_words words job policy limit taken NoMemory read ended wrote says = says
-judged_words words job policy limit taken Done read ended wrote says = (Judge job policy limit, taken, says)
-judged_words words job policy limit taken (Bad kind place) read ended wrote says = (Judge job policy limit, taken, says)
-judged_words words job policy limit taken (Cut place) read ended wrote says = (Judge job policy limit, taken, says)
-judged_words words job policy limit taken (HeadLimit place) read ended wrote says = (Judge job policy limit, taken, says)
-judged_words words job policy limit taken (MediaFull place) read ended wrote says = (Judge job policy limit, taken, says)
-judged_words words job policy limit taken Endless read ended wrote says = (Judge job policy limit, taken, says)
-judged_words words job policy limit taken ReadFault read ended wrote says = (Judge job policy limit, taken, says)
-judged_words words job policy limit taken WriteFault read ended wrote says = (Judge job policy limit, taken, says)
-
 pub mime_words : (words : List (List ℕ)) (text : List ℕ) → IsTaken words (Mime text)
     → (answer : Outcome) (read : List ℕ) (ended : Bool) (wrote : List ℕ)
     → IsMimeAnswer text read answer wrote → Answers words read ended wrote answer
