@@ -8,4 +8,4 @@ set -e
 . "$(dirname "$0")/lib.sh"
 clone text_stream json_recogniser
 build json_speed json_recogniser
-python3 "$top/bench/json.py" "$scratch"
+python3 "$top/bench/json_tests.py" "$scratch"

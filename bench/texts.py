@@ -12,6 +12,7 @@ HERE = pathlib.Path(__file__).parent
 TOTAL = 100_000_000
 ROUNDS = 3
 SIZES = {"2 kB": 2_000, "100 kB": 100_000, "5 MB": 5_000_000}
+LIBRARIES = ("jquery", "underscore", "sorttable", "ace", "mark", "elasticlunr", "clipboard")
 OCTETS = b"Content-Type: application/octet-stream\r\n"
 
 
@@ -29,7 +30,9 @@ def is_script(text):
 
 def scripts():
     """Those that are minified, with more than 200 bytes a line, and the others."""
-    texts = [pathlib.Path(name).read_bytes() for name in NAMES] or files("*.js")
+    texts = [pathlib.Path(name).read_bytes() for name in NAMES]
+    for library in LIBRARIES if not NAMES else ():
+        texts += files(library + "*.js")
     texts = [text for text in texts if is_script(text)]
     minified = [text for text in texts if len(text) > 200 * text.count(b"\n")]
     return minified, [text for text in texts if text not in minified]
@@ -40,7 +43,7 @@ def bodies(texts, size):
     long = [text[:size] for text in texts if len(text) >= size]
     if long or not texts:
         return long[:20]
-    whole = b"\n;\n".join(texts)
+    whole = b"".join(text + b"\n;\n" for text in texts)
     return [(whole * (size // len(whole) + 1))[:size]]
 
 

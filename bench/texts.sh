@@ -7,7 +7,7 @@
 #     bench/texts.sh [SCRIPT.js ..]
 #
 # A body is the first bytes of a script, which is read to its end whether or not it is whole. Scripts are those of the files
-# named that the program takes for scripts; without names they are looked for below /usr/share and ~/.rustup. Nothing
+# named that the program takes for scripts; without names some libraries are looked for below /usr/share and ~/.rustup. Nothing
 # here is part of the gate.
 # `bench/json.sh` and `bench/scripts.sh` measure the tests alone.
 set -e

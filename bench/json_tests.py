@@ -1,4 +1,4 @@
-"""The table of bench/json.sh: json.py SCRATCH, where the program json_speed stands."""
+"""The table of bench/json.sh: json_tests.py SCRATCH, where the program json_speed stands."""
 
 import glob
 import json
