@@ -1,5 +1,5 @@
 pub mod ToldLemmas
 pub mod GivesLemmas
 pub mod CallLemmas
-pub mod ListenerLemmas
+pub mod LinkLemmas
 mod StreamLemmas

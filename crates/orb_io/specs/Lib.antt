@@ -1,7 +1,9 @@
 pub mod Told
 pub mod Counts
 pub mod Memory
+pub mod Links
 pub mod Listeners
+pub mod Dialers
 pub mod Streams
 pub mod Adapters
 pub mod TcpAdapters

@@ -8,14 +8,18 @@
 //! A [`Listener`] hands out links, each a source and a sink at once, and takes them back. It counts
 //! the faults of `bind` and of `accept` apart, and tells how many links it handed out, where that
 //! is known. [`MemoryListener`] has its links in memory; [`TcpListening`] takes them from the system.
+//! A [`Dialer`] connects to a host that it is given, and counts its faults; [`MemoryDialer`] and
+//! [`TcpDialing`] are the like.
 //!
-//! `specs/Told` has the words that every crate above cites, `specs/Memory` and `specs/Listeners` what
-//! the objects in memory do, and `specs/Streams` what the adapters do.
+//! `specs/Told` has the words that every crate above cites, `specs/Memory`, `specs/Links`, `specs/Listeners` and
+//! `specs/Dialers` what the objects in memory do, and `specs/Streams` what the adapters do.
 #![tactic(auto)]
 
 mod counting_sink;
+mod dialer;
 mod fault_count;
 mod listener;
+mod memory_dialer;
 mod memory_link;
 mod memory_listener;
 mod memory_sink;
@@ -23,13 +27,18 @@ mod memory_source;
 mod never_fails;
 mod outbox;
 mod outside;
+mod pulling;
 mod pushing;
+mod ready_links;
 mod streams;
 mod supply;
 mod tcp;
+mod tcp_dialing;
 
 pub use counting_sink::CountingSink;
+pub use dialer::Dialer;
 pub use listener::Listener;
+pub use memory_dialer::MemoryDialer;
 pub use memory_link::MemoryLink;
 pub use memory_listener::MemoryListener;
 pub use memory_sink::MemorySink;
@@ -37,6 +46,8 @@ pub use memory_source::MemorySource;
 pub use never_fails::NeverFails;
 pub use outbox::Outbox;
 pub use outside::{Duplex, Failed, NoMemory, Sink, Source};
+pub use pulling::{MOST_OF_A_RUN, pull_within};
 pub use pushing::push_nonempty;
 pub use streams::{StdSink, StdSource};
 pub use tcp::{TcpLink, TcpListening};
+pub use tcp_dialing::TcpDialing;

@@ -1,45 +1,39 @@
 //! A listener in memory.
 ghost use Rattle.std.specs.Prelude.{◌≡◌, IsNone, IfSome, Some, None};
 ghost use Rattle.orb_io.specs.Told.{HasCause};
-ghost use Rattle.orb_io.specs.Listeners.{HandsOut, TakesNext, BindsInMemory, AcceptsInMemory, given_back, link_at, IsFirstPlace};
-ghost use Rattle.orb_io.specs.Memory.{fails_at};
-ghost use Rattle.orb_io.specs.Counts.{one_more};
+ghost use Rattle.orb_io.specs.Links.{links_at_first, link_at, links_with};
+ghost use Rattle.orb_io.specs.Listeners.{HandsOut, BindsInMemory, AcceptsInMemory};
 
 use crate::fault_count::raised;
 use crate::listener::Listener;
 use crate::memory_link::MemoryLink;
 use crate::outside::Failed;
+use crate::ready_links::ReadyLinks;
 use std::marker::Model;
 
 /// A listener whose links stand ready in memory. It takes no memory.
 #[derive(Drop)]
 pub struct MemoryListener {
-    links: Vec<Option<MemoryLink>>,
-    next: usize,
+    links: ReadyLinks,
     handed: u64,
-    fails: Vec<u64>,
-    calls: u64,
     bind_faults: u64,
     accept_faults: u64,
 }
 
 impl Model for MemoryListener {
-    ghost use Rattle.std.specs.Prelude.{◌≤◌, length};
+    ghost use Rattle.std.specs.Prelude.{◌≤◌};
     ghost use Rattle.orb_io.specs.Listeners.{ListenerState};
 
     ghost Value = { ListenerState };
 
     ghost view = { λ s. record {
-      links = s.links.items;
-      next = s.next;
+      links = s.links;
       handed = s.handed;
-      fails = s.fails.items;
-      calls = s.calls;
       bind_faults = s.bind_faults;
       accept_faults = s.accept_faults;
     } };
 
-    ghost invariant = { λ s. (s.handed ≤ s.next) × (s.next ≤ length s.links.items) };
+    ghost invariant = { λ s. s.handed ≤ s.links.next };
 }
 
 impl MemoryListener {
@@ -48,21 +42,15 @@ impl MemoryListener {
     /// `fails` fail. `accept` fails too where no link is left.
     pub fn new(links: Vec<Option<MemoryLink>>, fails: Vec<u64>) -> MemoryListener
         ensures { result ≡ record {
-          links = links.items;
-          next = 0;
+          links = links_at_first links.items fails.items;
           handed = 0;
-          fails = fails.items;
-          calls = 0;
           bind_faults = 0;
           accept_faults = 0;
         } }
     {
         MemoryListener {
-            links,
-            next: 0,
+            links: ReadyLinks::new(links, fails),
             handed: 0,
-            fails,
-            calls: 0,
             bind_faults: 0,
             accept_faults: 0,
         }
@@ -70,43 +58,11 @@ impl MemoryListener {
 
     /// The link at the place, from 0; `None` exactly where none stands there.
     pub fn link(&self, index: usize) -> Option<&MemoryLink>
-        ensures none { IsNone result → link_at self.now.links index ≡ None }
-        ensures some { IfSome result (λ l. link_at self.now.links index ≡ Some l.now) }
+        ensures none { IsNone result → link_at self.now.links.places index ≡ None }
+        ensures some { IfSome result (λ l. link_at self.now.links.places index ≡ Some l.now) }
     {
-        self.links.get(index)?.as_ref()
+        self.links.link(index)
     }
-
-    /// Whether this call is one that fails; it is counted.
-    fn call_fails(&mut self) -> bool
-        ensures fails { result ≡ fails_at self.old.fails self.old.calls }
-        ensures after { self.new ≡ record self.old { calls = one_more self.old.calls } }
-    {
-        let fails = self.fails.contains(&self.calls);
-        self.calls = self.calls.saturating_add(1);
-        fails
-    }
-
-    /// Hands out the next link, where there is one.
-    fn take_next(&mut self) -> Option<MemoryLink>
-        ensures { TakesNext self.old self.new result }
-    {
-        let place = next_place(&self.links, self.next)?;
-        self.next = place + 1;
-        self.handed += 1;
-        self.links[place].take()
-    }
-}
-
-/// The first place from this one on at which a link stands.
-fn next_place(links: &[Option<MemoryLink>], from: usize) -> Option<usize>
-    ensures { IsFirstPlace links.now from result }
-{
-    for (place, link) in links.iter().enumerate() {
-        if place >= from && link.is_some() {
-            return Some(place);
-        }
-    }
-    None
 }
 
 impl Listener for MemoryListener {
@@ -125,7 +81,7 @@ impl Listener for MemoryListener {
         ensures handed { Some self.new.handed ≡ Some self.old.handed }
         ensures does { BindsInMemory self.old self.new result }
     {
-        if self.call_fails() {
+        if self.links.call_fails() {
             return Err(raised(&mut self.bind_faults));
         }
         Ok(())
@@ -137,12 +93,12 @@ impl Listener for MemoryListener {
         ensures handed { HandsOut (Some self.old.handed) (Some self.new.handed) result }
         ensures does { AcceptsInMemory self.old self.new result }
     {
-        if self.call_fails() {
-            return Err(raised(&mut self.accept_faults));
-        }
-        match self.take_next() {
-            Some(link) => Ok(link),
-            None => Err(raised(&mut self.accept_faults)),
+        match self.links.hand_out() {
+            Ok(link) => {
+                self.handed += 1;
+                Ok(link)
+            }
+            Err(Failed) => Err(raised(&mut self.accept_faults)),
         }
     }
 
@@ -152,14 +108,9 @@ impl Listener for MemoryListener {
         ensures binds { self.new.bind_faults ≡ self.old.bind_faults }
         ensures accepts { self.new.accept_faults ≡ self.old.accept_faults }
         ensures handed { Some self.new.handed ≡ Some self.old.handed }
-        ensures does { self.new ≡ record self.old { links = given_back self.old.links self.old.next link } }
+        ensures does { self.new ≡ record self.old { links = links_with self.old.links link } }
     {
-        let Some(last) = self.next.checked_sub(1) else {
-            return;
-        };
-        if self.links[last].is_none() {
-            self.links[last] = Some(link);
-        }
+        self.links.put_back(link);
     }
 }
 

@@ -26,6 +26,22 @@ pub struct TcpLink<S> {
     push_faults: u64,
 }
 
+impl<S> TcpLink<S> {
+    ghost use Rattle.orb_io.specs.TcpAdapters.{pull_faults, push_faults};
+
+    /// Over the stream, with no fault so far.
+    pub(crate) fn new(stream: S) -> TcpLink<S>
+        ensures pulls { pull_faults result ≡ 0 }
+        ensures pushes { push_faults result ≡ 0 }
+    {
+        TcpLink {
+            stream,
+            pull_faults: 0,
+            push_faults: 0,
+        }
+    }
+}
+
 impl<S: Read + Write> Source for TcpLink<S> {
     ghost use Rattle.orb_io.specs.TcpAdapters.{stream_of, pull_faults, push_faults};
 
@@ -165,11 +181,7 @@ impl<'r, R: Net> Listener for TcpListening<'r, R> {
             return Err(raised(&mut self.accept_faults));
         };
         match listener.accept() {
-            Ok((stream, _)) => Ok(TcpLink {
-                stream,
-                pull_faults: 0,
-                push_faults: 0,
-            }),
+            Ok((stream, _)) => Ok(TcpLink::new(stream)),
             Err(_) => Err(raised(&mut self.accept_faults)),
         }
     }

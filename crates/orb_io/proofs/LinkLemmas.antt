@@ -1,9 +1,9 @@
--- Places of a listener in memory.
+-- Places of links in memory.
 use Rattle.std.proofs.Common.{◌≡◌, ℕ, ◌<◌, ◌≤◌, true, false, List, length, get_or, Option, Some, None, refl, sym}
 use Rattle.std.proofs.lemmas.List.{get_or_read_under}
 use Rattle.std.specs.Prelude.{is_some}
 use Rattle.orb_io.specs.Memory.{LinkState}
-use Rattle.orb_io.specs.Listeners.{HasNoneIn, IsFirstPlace}
+use Rattle.orb_io.specs.Links.{HasNoneIn, IsFirstPlace}
 
 -- what was read at a place and is a link, is the first one
 pub first_there : (links : List (Option LinkState)) (from place : ℕ) (read : Option LinkState)
