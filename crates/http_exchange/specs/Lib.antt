@@ -9,6 +9,7 @@ pub mod Pieces
 pub mod Sound
 pub mod Reads
 pub mod Spans
+pub mod Parts
 pub mod RequestFields
 pub mod ResponseFields
 pub mod Reading
@@ -17,3 +18,4 @@ pub mod Gathering
 pub mod Chunks
 pub mod Framing
 pub mod Framers
+pub mod Messages

@@ -3,7 +3,7 @@
 //! `specs/Head` says where a head ends, and `specs/Heads` which bytes are a head: the grammar is that
 //! of `httparse`, and the whole text has to be one head with at most 128 fields. What is read of one,
 //! [`read_request`] and [`read_response`], is said by its fields alone: `specs/RequestFields` and
-//! `specs/ResponseFields`.
+//! `specs/ResponseFields`. The parts of a request head as they stand in it (`specs/Parts`) are what [`request_parts`] gives.
 //!
 //! A [`HeadReader`] gathers a head from pieces up to its limit (`specs/Gathering`).
 //!
@@ -34,7 +34,7 @@ pub use framing::Framer;
 pub use gathering::{HeadReader, HeadTaken};
 pub use pieces::Taken;
 pub use refusals::BadKind;
-pub use request::{RequestHead, read_request};
+pub use request::{RequestHead, RequestParts, read_request, request_parts};
 pub use response::{ResponseHead, read_response};
 pub use settled::{
     head_length_stays, one_request, one_response, prefixes_of_bodies, unframed_is_prefix,

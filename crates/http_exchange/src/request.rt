@@ -1,7 +1,10 @@
 //! Request heads (RFC 9112 2 to 5), and what a fetch tells of itself in their fields.
-ghost use Rattle.std.specs.Prelude.{◌≡◌, ◌≤◌, ◌&&◌, codes, length};
+ghost use Rattle.std.specs.Prelude.{◌≡◌, ◌≤◌, ◌&&◌, codes, length, IfSome, IfNone};
+ghost use Rattle.httparse.specs.Grammar.{RequestHead as RequestTree};
 ghost use Rattle.header_values.specs.Fields.{AreOfHead, pairs_in};
 ghost use Rattle.http_exchange.specs.RequestFields.{value_of, has_body as has_body_of, id_of, is_opaque as is_opaque_of, is_for_media as is_for_media_of, request_of};
+ghost use Rattle.http_exchange.specs.Heads.{IsRequest};
+ghost use Rattle.http_exchange.specs.Parts.{ArePartsOf};
 ghost use Rattle.http_exchange.specs.Reading.{ReadsRequestHead};
 
 use crate::refusals::BadKind;
@@ -25,6 +28,37 @@ pub struct RequestHead {
     pub media_id: Option<u64>,
 }
 
+/// The parts of a request head (RFC 9112 2 to 5).
+#[derive(Clone, Copy, Debug)]
+pub struct RequestParts<'a> {
+    /// The method.
+    pub method: &'a [u8],
+    /// The target, as it is written.
+    pub target: &'a [u8],
+    /// The fields, in the head.
+    pub fields: Fields<'a>,
+}
+
+/// The parts of a whole request head, with its fields in `spans`; `None` exactly where [`read_request`] answers
+/// [`BadKind::BadHead`]: where the bytes aren't one request head with at most 128 fields. It takes no memory.
+pub fn request_parts<'a>(
+    head: &'a [u8],
+    spans: &'a mut ArrayVec<FieldSpan, 128>,
+) -> Option<RequestParts<'a>>
+    ensures parts { IfSome result (λ parts. (h : RequestTree) × IsRequest head.now h × ArePartsOf head.now h parts) }
+    ensures none { IfNone result ((h : RequestTree) → ¬ (IsRequest head.now h)) }
+{
+    let line = request_fields(head, spans)?;
+    Some(RequestParts {
+        method: line.method,
+        target: line.target,
+        fields: Fields {
+            head,
+            spans: spans.as_slice(),
+        },
+    })
+}
+
 /// Reads a whole request head.
 ///
 /// Refused are, in this order: bytes that aren't one request head with at most 128 fields
@@ -37,15 +71,9 @@ pub fn read_request(head: &[u8], scratch: &mut Scratch) -> Result<RequestHead, B
     ensures kept { scratch.new ≡ scratch.old }
 {
     let mut spans: ArrayVec<FieldSpan, 128> = ArrayVec::new();
-    match request_fields(head, &mut spans) {
+    match request_parts(head, &mut spans) {
         None => Err(BadKind::BadHead),
-        Some(is_head) => {
-            let fields = Fields {
-                head,
-                spans: spans.as_slice(),
-            };
-            judged(is_head, &fields, scratch)
-        }
+        Some(parts) => judged(parts.method == b"HEAD".as_slice(), &parts.fields, scratch),
     }
 }
 

@@ -1,8 +1,9 @@
 //! A whole head of the grammar, and where its fields stand (RFC 9112 2 to 5).
-ghost use Rattle.std.specs.Prelude.{◌≡◌, ◌≤◌, length, map, IfSome, IfNone, codes, bytes_eq};
+ghost use Rattle.std.specs.Prelude.{◌≡◌, ◌≤◌, length, map, IfSome, IfNone};
 ghost use Rattle.httparse.specs.Grammar.{RequestHead, ResponseHead, status_code};
 ghost use Rattle.http_exchange.specs.Heads.{IsRequest, IsResponse};
 ghost use Rattle.http_exchange.specs.Spans.{HasFields, field_span};
+ghost use Rattle.http_exchange.specs.Parts.{IsLineOf};
 
 use arrayvec::ArrayVec;
 use header_values::FieldSpan;
@@ -15,31 +16,41 @@ const MOST_FIELDS: usize = 128;
 /// Room for the fields of most heads, which is tried first: to clear room for all costs more than to read most heads.
 const FEW_FIELDS: usize = 32;
 
-/// Whether the method of the request head is HEAD, with its fields in `spans`; `None` exactly where
-/// the bytes aren't one request head.
-pub(crate) fn request_fields(head: &[u8], spans: &mut ArrayVec<FieldSpan, 128>) -> Option<bool>
-    ensures found { IfSome result (λ is_head. (h : RequestHead) × IsRequest head.now h
-        × (is_head ≡ bytes_eq h.method (codes "HEAD"))
-        × HasFields head.now spans.new.items h.fields) }
+/// What a request line asks for (RFC 9112 3).
+#[derive(Clone, Copy, Debug)]
+pub(crate) struct RequestLine<'a> {
+    /// The method.
+    pub(crate) method: &'a [u8],
+    /// The target, as it is written.
+    pub(crate) target: &'a [u8],
+}
+
+/// The line of the request head, with its fields in `spans`; `None` exactly where the bytes aren't one
+/// request head.
+pub(crate) fn request_fields<'a>(
+    head: &'a [u8],
+    spans: &mut ArrayVec<FieldSpan, 128>,
+) -> Option<RequestLine<'a>>
+    ensures found { IfSome result (λ line. (h : RequestHead) × IsRequest head.now h
+        × IsLineOf h line × HasFields head.now spans.new.items h.fields) }
     ensures none { IfNone result ((h : RequestHead) → ¬ (IsRequest head.now h)) }
 {
     let mut few = [EMPTY_HEADER_SPAN; FEW_FIELDS];
     match request_within(head, &mut few, spans) {
-        Some(is_head) => Some(is_head),
+        Some(line) => Some(line),
         None => request_within(head, &mut [EMPTY_HEADER_SPAN; MOST_FIELDS], spans),
     }
 }
 
 /// The same, with room for as many fields as `found` is long.
-fn request_within(
-    head: &[u8],
+fn request_within<'a>(
+    head: &'a [u8],
     found: &mut [HeaderSpan],
     spans: &mut ArrayVec<FieldSpan, 128>,
-) -> Option<bool>
+) -> Option<RequestLine<'a>>
     requires { length found.old ≤ 128 }
-    ensures found { IfSome result (λ is_head. (h : RequestHead) × IsRequest head.now h
-        × (is_head ≡ bytes_eq h.method (codes "HEAD"))
-        × HasFields head.now spans.new.items h.fields) }
+    ensures found { IfSome result (λ line. (h : RequestHead) × IsRequest head.now h
+        × IsLineOf h line × HasFields head.now spans.new.items h.fields) }
     ensures none { IfNone result (128 ≤ length found.old → (h : RequestHead) → ¬ (IsRequest head.now h)) }
 {
     let Ok(Status::Complete(request)) = parse_request(head, found) else {
@@ -49,7 +60,10 @@ fn request_within(
         return None;
     }
     keep(&found[..request.headers], spans);
-    Some(request.method.of(head) == b"HEAD".as_slice())
+    Some(RequestLine {
+        method: request.method.of(head),
+        target: request.path.of(head),
+    })
 }
 
 /// The status of the response head, with its fields in `spans`; `None` exactly where the bytes

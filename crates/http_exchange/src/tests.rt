@@ -1,5 +1,7 @@
 //! Heads through [`read_request`] and [`read_response`], with what is owed of each.
-use crate::{BadKind, BodyFrame, RequestHead, head_end, read_request, read_response};
+use crate::{
+    BadKind, BodyFrame, RequestHead, head_end, read_request, read_response, request_parts,
+};
 use arrayvec::ArrayVec;
 use header_values::Scratch;
 use std::alloc::Global;
@@ -78,6 +80,30 @@ fn requests_are_read_or_refused_in_their_order(rt: HostRuntime) -> Result<(), Fa
         assert_eq!(rt; read_request(head, &mut scratch), owed, "{head:?}");
     }
     Ok(())
+}
+
+#[test]
+fn the_parts_of_a_request_are_given(rt: HostRuntime) {
+    let rows: [(&[u8], Option<(&[u8], &[u8], usize)>); 4] = [
+        (
+            b"\r\nPUT http://a/?b HTTP/1.0\r\nC:d\r\nE:\r\n\r\n",
+            Some((b"PUT", b"http://a/?b", 2)),
+        ),
+        (
+            b"GET * HTTP/1.1\r\nContent-Length: 1\r\n\r\n",
+            Some((b"GET", b"*", 1)),
+        ),
+        (b"GET * HTTP/1.1\r\n\r\n\r\n", None),
+        (b"GET\r\n\r\n", None),
+    ];
+    for (head, owed) in rows {
+        let mut spans = ArrayVec::new();
+        let parts = match request_parts(head, &mut spans) {
+            Some(parts) => Some((parts.method, parts.target, parts.fields.spans.len())),
+            None => None,
+        };
+        assert_eq!(rt; parts, owed, "{head:?}");
+    }
 }
 
 #[test]

@@ -1,5 +1,4 @@
 use Rattle.std.proofs.Common.{◌≡◌, ◌≤◌, ℕ, List, [], ◌++◌, length, take, drop, ap, ◌∙◌, arith}
-use Rattle.std.specs.Prelude.{bytes_eq}
 use Rattle.std.proofs.lemmas.List.{drop_all, length-map, length-take}
 use Rattle.httparse.specs.Grammar.{RequestHead, print_request}
 use Rattle.httparse.specs.Spans.{header_bytes, name_and_value}
@@ -26,8 +25,7 @@ returns-clause-found c =
     ) in (
       h,
       ((parsed.reads.0, whole), few),
-      c.eq.ensures ∙ ap (λ (t : List ℕ). bytes_eq t c.as_slice.result.now) (c.of.ensures ∙ parsed.method)
-          ∙ ap (λ (t : List ℕ). bytes_eq h.method t) c.as_slice.ensures,
+      record { method = c.of.ensures ∙ parsed.method; target = c.of-2.ensures ∙ parsed.path },
       rw c.keep.ensures (HasFields-found head c.in-Ok-Complete.request.len found h.fields h.last
           within.section.len_fits within.section.headers_fit parsed.fields parsed.reads.0.fields (length-request head h whole)),
     )
