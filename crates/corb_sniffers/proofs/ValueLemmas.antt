@@ -123,6 +123,9 @@ tag_from text h =
     (and_from (same_name (take (length h.tag) text) h.tag) (begins_ending (drop (length h.tag) text))
     (ap (λ t. same_name t h.tag) taken ∙ h.same) (ap begins_ending dropped ∙ h.ends))
 
+pub tag_value : (text : List ℕ) → IsTrue (list_any (begins_with_tag text) tags) ↔ BeginsWithTag text
+tag_value text = (tag_to text, tag_from text)
+
 -- what is inside a comment, with one byte more in prefix
 ends_first : (b : ℕ) (inside rest : List ℕ) → EndsFirst inside
     → starts_with nat_eq (b ∷ (inside ++ (end ++ rest))) end ≡ false → EndsFirst (b ∷ inside)

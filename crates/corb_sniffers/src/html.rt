@@ -105,8 +105,9 @@ fn after_comment(text: &[u8]) -> Option<&[u8]>
     Some(&inside[end + 3..])
 }
 
-/// Whether the text begins with a tag that confirms HTML and a byte that ends it.
-fn begins_with_tag(text: &[u8]) -> bool
+/// Whether the text begins with a tag that confirms HTML, its letters in either case, and a byte that ends it
+/// (WHATWG MIME Sniffing 7.1, without the comment).
+pub fn begins_with_tag(text: &[u8]) -> bool
     ensures { IsTrue result ↔ BeginsWithTag text.now }
 {
     begins_with_row(&TAGS, text)

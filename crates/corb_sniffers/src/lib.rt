@@ -14,7 +14,7 @@ mod tests;
 mod xml;
 
 pub use breakers::has_breaker;
-pub use html::sniffs_html;
+pub use html::{begins_with_tag, sniffs_html};
 pub use json::sniffs_json;
 pub use laws::sniffers_are_decided;
 pub use xml::sniffs_xml;

@@ -130,6 +130,8 @@ mod tests {
     use super::*;
     use std::test::Fail;
 
+    const UNKNOWN: MediaState = MediaState::Subsequent { complete: None };
+
     #[test]
     fn states_are_kept_by_id(rt: HostRuntime) -> Result<(), Fail> {
         let mut table = MediaTable::open(rt.alloc())?;
@@ -139,10 +141,10 @@ mod tests {
         assert_eq!(rt; table.look(0), None);
         assert_eq!(rt; table.look(7), Some(MediaState::Initial));
         if table.look(7).is_some() {
-            table.set(7, MediaState::Subsequent);
+            table.set(7, UNKNOWN);
         }
         assert_eq!(rt; table.admit(7), Ok(()));
-        assert_eq!(rt; table.look(7), Some(MediaState::Subsequent));
+        assert_eq!(rt; table.look(7), Some(UNKNOWN));
         assert_eq!(rt; table.look(u64::MAX), Some(MediaState::Initial));
         table.clear();
         assert_eq!(rt; table.look(7), None);

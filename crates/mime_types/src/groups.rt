@@ -173,8 +173,8 @@ pub fn is_media(e: &Essence) -> bool
         .any(|main| eq_ignore_case(e.main, main.as_bytes()))
 }
 
-/// Whether it is one of the pairs of a type and a subtype.
-fn is_among(e: &Essence, essences: &[(&str, &str)]) -> bool
+/// Whether it is one of these pairs of a type and a subtype, each without regard to ASCII case.
+pub fn is_among(e: &Essence, essences: &[(&str, &str)]) -> bool
     ensures { result ≡ list_any
         (λ x. same_name e.now.main.now x.0.now && same_name e.now.sub.now x.1.now) essences.now }
 {

@@ -16,7 +16,7 @@ mod values;
 
 pub use essences::{Essence, essence_of, one_record};
 pub use groups::{
-    is_blocklisted, is_html, is_javascript, is_json, is_media, is_never_sniffed, is_safelisted,
-    is_text_plain, is_xml,
+    is_among, is_blocklisted, is_html, is_javascript, is_json, is_media, is_never_sniffed,
+    is_safelisted, is_text_plain, is_xml,
 };
 pub use records::{MimeError, MimeType, text_is_parsed};

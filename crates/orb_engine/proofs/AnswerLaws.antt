@@ -9,7 +9,8 @@ use Rattle.media_state.specs.Table.{States}
 use Rattle.response_rules.specs.declared.rules.Rule.{Rule}
 use Rattle.body_filter.specs.Responses.{Response}
 use Rattle.orb_engine.specs.declared.settings.Settings.{Settings}
-use Rattle.orb_engine.specs.Heads.{response_of, is_to_end}
+use Rattle.exchanges.specs.Heads.{is_to_end}
+use Rattle.orb_engine.specs.Judged.{response_of}
 use Rattle.orb_engine.specs.Recording as cut
 use Rattle.orb_engine.specs.Recording.{Exchange, Tail, Recording, IsRecording, spell_exchanges, spell_tail, table_after_all, is_open}
 use Rattle.orb_engine.specs.Ends.{Open, stop_at, stop_of}

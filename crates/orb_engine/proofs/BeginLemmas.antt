@@ -17,7 +17,8 @@ use Rattle.orb_engine.specs.declared.settings.Settings.{Settings}
 use Rattle.orb_engine.specs.declared.engine.Engine.{Engine}
 use Rattle.orb_engine.specs.declared.engine.states.Asked.{Asked}
 use Rattle.orb_engine.specs.declared.engine.states.Incoming.{Incoming}
-use Rattle.orb_engine.specs.Heads.{id_of, is_chunked, is_to_end, judged_by}
+use Rattle.exchanges.specs.Heads.{id_of, is_chunked, is_to_end}
+use Rattle.orb_engine.specs.Judged.{judged_by}
 use Rattle.orb_engine.specs.Recording.{spell_exchanges}
 use Rattle.orb_engine.specs.Outputs.{written_exchanges, written_so_far}
 use Rattle.orb_engine.specs.Writing.{WriterReads, gathered_by}

@@ -13,7 +13,8 @@ use Rattle.orb_engine.specs.declared.engine.states.Incoming.{Incoming}
 use Rattle.orb_engine.specs.declared.engine.states.State.{State}
 use Rattle.orb_engine.specs.declared.engine.states.State.TheVariants as state
 use Rattle.orb_engine.specs.declared.outcome.EngineOutcome.TheVariants as outcome
-use Rattle.orb_engine.specs.Heads.{Heads, response_of}
+use Rattle.exchanges.specs.Heads.{Heads}
+use Rattle.orb_engine.specs.Judged.{response_of}
 use Rattle.orb_engine.specs.Recording as cut
 use Rattle.orb_engine.specs.Recording.{Exchange, Tail, IsTail, IsOpenBody, spell_heads, spell_exchanges, spell_tail}
 use Rattle.orb_engine.specs.Ends as ends

@@ -22,17 +22,6 @@ use Rattle.orb_engine.specs.Counts.{rules_of_exchanges}
 use Rattle.orb_engine.specs.Reads.{IsTold, counts_of}
 use Rattle.orb_engine.proofs.CutLemmas.{count-sum, rules-length}
 
--- the id is kept once it is admitted
-pub kept-admitted : (table : States) (id : Option ℕ) → IsKept (admits table id) id
-kept-admitted table None = tt
-kept-admitted table (Some id) = by (map.contains_key table id) refl
-  where
-    by : (b : Bool) → map.contains_key table id ≡ b → map.contains_key (admitted table id) id ≡ true
-    by true is = rw is is
-    by false is =
-        rw is (ap is_some (map.get-insert nat_cmp_total table id Initial id
-        ∙ ap (λ t. cond t (Some Initial) (map.get table id)) ((eq_by_cmp_equiv nat_cmp_total).refl id)))
-
 pub stored-keeps : (table : States) (id : Option ℕ) (state : MediaState) → stored (admits table id) id state ≡ keeps table id state
 stored-keeps table None state = refl
 stored-keeps table (Some id) state = refl

@@ -8,7 +8,7 @@ use Rattle.response_rules.specs.declared.rules.Rule.{Rule}
 use Rattle.response_rules.specs.Rules.{is_allowing}
 use Rattle.orb_engine.specs.declared.settings.Settings.{Settings}
 use Rattle.orb_engine.specs.declared.progress.Counts.{Counts}
-use Rattle.orb_engine.specs.Heads.{response_of}
+use Rattle.orb_engine.specs.Judged.{response_of}
 use Rattle.orb_engine.specs.Recording.{Exchange, IsExchange, AreExchanges, spell_exchange, spell_exchanges, table_after, table_after_all}
 use Rattle.orb_engine.specs.Outputs.{written_exchanges, written_whole}
 use Rattle.orb_engine.specs.Counts.{rules_of_exchanges, count_allowed, count_blocked}

@@ -10,7 +10,8 @@ use Rattle.response_rules.specs.Tables.{rule_of}
 use Rattle.http_exchange.specs.Frames.{IsBodyPrefix, IsWhole}
 use Rattle.http_exchange.proofs.UnframerLemmas.{one_prefix}
 use Rattle.orb_engine.specs.declared.settings.Settings.{Settings}
-use Rattle.orb_engine.specs.Heads.{Heads, judged_by, response_of}
+use Rattle.exchanges.specs.Heads.{Heads}
+use Rattle.orb_engine.specs.Judged.{judged_by, response_of}
 use Rattle.orb_engine.specs.Recording as cut
 use Rattle.orb_engine.specs.Recording.{Exchange, Tail, IsExchange, IsTail, IsOpenBody, IsBadBody, spell_heads, spell_exchange, spell_tail, is_open}
 use Rattle.orb_engine.specs.Outputs.{written_so_far, written_whole, written_tail}

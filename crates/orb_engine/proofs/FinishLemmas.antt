@@ -7,7 +7,7 @@ use Rattle.orb_engine.specs.declared.engine.states.Asked.{Asked}
 use Rattle.orb_engine.specs.declared.engine.states.Incoming.{Incoming}
 use Rattle.orb_engine.specs.declared.outcome.EngineOutcome.{EngineOutcome}
 use Rattle.orb_engine.specs.declared.outcome.EngineOutcome.TheVariants as outcome
-use Rattle.orb_engine.specs.Heads.{Heads, is_to_end}
+use Rattle.exchanges.specs.Heads.{Heads, is_to_end}
 use Rattle.orb_engine.specs.Recording as cut
 use Rattle.orb_engine.specs.Recording.{Exchange, IsRecording, spell_heads, spell_exchanges}
 use Rattle.orb_engine.specs.Ends as ends

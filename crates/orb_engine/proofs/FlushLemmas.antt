@@ -17,7 +17,7 @@ use Rattle.orb_engine.specs.declared.outcome.EngineOutcome.{EngineOutcome}
 use Rattle.orb_engine.specs.declared.outcome.EngineOutcome.TheVariants as outcome
 use Rattle.orb_io.specs.Outboxes.{OutboxState, empty_outbox}
 use Rattle.orb_engine.specs.Workers.{IsWorkerFor, Works}
-use Rattle.orb_engine.specs.Heads.{response_of}
+use Rattle.orb_engine.specs.Judged.{response_of}
 use Rattle.orb_engine.specs.Recording as cut
 use Rattle.orb_engine.specs.Recording.{Exchange, Tail, Recording, is_open}
 use Rattle.orb_engine.specs.Outputs.{output_of, written_exchanges}

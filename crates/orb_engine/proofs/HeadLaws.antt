@@ -21,7 +21,7 @@ use Rattle.http_exchange.specs.declared.refusals.BadKind.{BadKind}
 use Rattle.http_exchange.specs.declared.request.RequestHead.{RequestHead}
 use Rattle.http_exchange.proofs.EndLemmas.{head_length-stays, head_length-alone}
 use Rattle.http_exchange.specs.HeadTexts.{head_limit, IsHeadText, IsOpenHead, IsLongHead}
-use Rattle.orb_engine.specs.Heads.{ResponseText, IsResponseHead}
+use Rattle.exchanges.specs.Heads.{ResponseText, IsResponseHead}
 
 pub data HeadView : Type 0 where
   Opens : HeadView

@@ -12,7 +12,8 @@ use Rattle.response_rules.specs.declared.facts.Facts.{Facts}
 use Rattle.response_rules.specs.Facts.{AreFactsOf}
 use Rattle.response_rules.specs.Reads.{case_of}
 use Rattle.media_state.specs.declared.states.MediaState.{MediaState}
-use Rattle.orb_engine.specs.HeadReads.{ReadsWell}
+use Rattle.orb_engine.specs.Judged.{context_of}
+use Rattle.exchanges.specs.HeadReads.{ReadsWell}
 use Rattle.orb_engine.proofs.AnswerLaws.{refusal-stands, exchanges-longer}
 use Rattle.http_exchange.specs.Reading.{ReadsRequestHead, ReadsResponseHead}
 use Rattle.http_exchange.specs.declared.refusals.BadKind.{BadKind}
@@ -27,7 +28,7 @@ use Rattle.orb_engine.specs.Progress.{advanced}
 use Rattle.orb_engine.specs.declared.outcome.EngineOutcome.{EngineOutcome}
 use Rattle.orb_engine.specs.declared.outcome.EngineOutcome.TheVariants as outcome
 use Rattle.http_exchange.specs.HeadTexts.{IsHeadText, IsOpenHead, IsLongHead}
-use Rattle.orb_engine.specs.Heads.{RequestText, id_of, state_before}
+use Rattle.exchanges.specs.Heads.{RequestText, id_of, state_before}
 use Rattle.media_state.specs.Table.{admits, IsRefusedId}
 use Rattle.orb_engine.specs.Recording as cut
 use Rattle.orb_engine.specs.Recording.{Exchange, Tail, Recording, IsRecording, IsTail, is_open, spell_exchanges, spell_tail}
@@ -458,7 +459,7 @@ response-bad asked e e' s m given kind h same reads =
 
 -- the facts are those of the response as the recording has it
 facts-judged : (asked : Asked) (d : Facts) (f : BodyFrame) (c s : Settings) (head : List ℕ) (state : MediaState) (asks : RequestHead)
-    → asked.state ≡ state → asked.asks ≡ asks → c ≡ s → (well : ReadsWell asked c head d f)
+    → asked.state ≡ state → asked.asks ≡ asks → c ≡ s → (well : ReadsWell (context_of c asked.asks asked.state) head d f)
     → AreFactsOf d (case_of s.policy state asks.opaque (status_code well.tree) (pairs_of well.tree.fields) s.limit well.essence)
 facts-judged asked d f c s head state asks state_is asks_is same well =
     let P : MediaState → Bool → Settings → Type 0 =
@@ -470,7 +471,7 @@ facts-judged asked d f c s head state asks state_is asks_is same well =
 -- the response head is good
 pub response-good : (asked : Asked) (read : Facts × BodyFrame) (e e' : Engine) (s : Settings) (m given : List ℕ)
     → HasResponse IsHeadText asked e s m given → IsSameHead e e' → e'.head ≡ e.head → e'.progress.taken ≡ e.progress.taken
-    → ReadsWell asked e.writer.settings e.head read.0 read.1 → HasReadHeads asked read e' s m given
+    → ReadsWell (context_of e.writer.settings asked.asks asked.state) e.head read.0 read.1 → HasReadHeads asked read e' s m given
 response-good asked read e e' s m given h same head taken well =
     let same_settings = h.common.settings in
     record {

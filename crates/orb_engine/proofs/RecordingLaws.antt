@@ -4,7 +4,7 @@ use Rattle.orb_io.specs.Told.{IsPrefix}
 use Rattle.orb_io.proofs.ToldLemmas.{IsPrefix-append, IsPrefix-after, IsPrefix-trans}
 use Rattle.media_state.specs.Table.{States}
 use Rattle.orb_engine.specs.declared.settings.Settings.{Settings}
-use Rattle.orb_engine.specs.Heads.{response_of}
+use Rattle.orb_engine.specs.Judged.{response_of}
 use Rattle.orb_engine.specs.Recording.{Exchange, Tail, AreExchanges, IsTail, spell_exchange, spell_exchanges, spell_tail, table_after, table_after_all, is_open}
 use Rattle.orb_engine.specs.Outputs.{written_whole, written_exchanges, written_tail}
 use Rattle.orb_engine.proofs.TailLaws.{IsAlike, same_tails}

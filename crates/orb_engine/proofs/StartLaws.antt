@@ -6,7 +6,7 @@ use Rattle.http_exchange.specs.Reading.{ReadsRequestHead, ReadsResponseHead}
 use Rattle.http_exchange.specs.declared.refusals.BadKind.{BadKind}
 use Rattle.http_exchange.specs.declared.request.RequestHead.{RequestHead}
 use Rattle.http_exchange.specs.HeadTexts.{IsOpenHead}
-use Rattle.orb_engine.specs.Heads.{RequestText, ResponseText, Heads, IsRequestIn, IsResponseHead, AreHeads, id_of}
+use Rattle.exchanges.specs.Heads.{RequestText, ResponseText, Heads, IsRequestIn, IsResponseHead, AreHeads, id_of}
 use Rattle.media_state.specs.Table.{IsRefusedId}
 use Rattle.orb_engine.specs.Recording as cut
 use Rattle.orb_engine.specs.Recording.{Tail, IsTail, spell_heads, spell_tail, is_open}

@@ -18,7 +18,8 @@ use Rattle.http_exchange.specs.declared.unframing.Unframer.{Unframer}
 use Rattle.http_exchange.proofs.UnframerLemmas.{whole_read}
 use Rattle.orb_engine.specs.declared.settings.Settings.{Settings}
 use Rattle.orb_engine.specs.declared.engine.Engine.{Engine}
-use Rattle.orb_engine.specs.Heads.{Heads, AreHeads, response_of}
+use Rattle.exchanges.specs.Heads.{Heads, AreHeads}
+use Rattle.orb_engine.specs.Judged.{response_of}
 use Rattle.orb_engine.specs.Recording as cut
 use Rattle.orb_engine.specs.Recording.{Exchange, Recording, AreExchanges, IsRecording, spell_heads, spell_exchanges}
 use Rattle.orb_engine.specs.Outputs.{output_of, written_exchanges, written_so_far}

@@ -5,7 +5,7 @@ use Rattle.media_state.specs.Table.{States}
 use Rattle.http_exchange.specs.Frames.{IsBodyPrefix, IsWhole}
 use Rattle.http_exchange.proofs.UnframerLemmas.{one_prefix, last_byte}
 use Rattle.orb_engine.specs.declared.settings.Settings.{Settings}
-use Rattle.orb_engine.specs.Heads.{Heads}
+use Rattle.exchanges.specs.Heads.{Heads}
 use Rattle.orb_engine.specs.Recording as cut
 use Rattle.orb_engine.specs.Recording.{Exchange, Tail, IsExchange, IsTail, IsOpenBody, IsBadBody, spell_exchange, spell_tail, is_open}
 use Rattle.orb_engine.specs.Ends.{Bad, HeadLimit, stop_at}

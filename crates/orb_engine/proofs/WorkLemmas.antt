@@ -1,5 +1,5 @@
 -- What the two jobs put of one exchange.
-use Rattle.std.proofs.Common.{◌≡◌, ℕ, ◌+◌, ◌*◌, ◌^◌, ◌≤◌, ◌<◌, Bool, true, false, List, [], length, length-append, lit≤, refl, sym, ap, subst, ◌∙◌, arith}
+use Rattle.std.proofs.Common.{◌≡◌, ℕ, ◌+◌, ◌*◌, ◌≤◌, List, [], length, refl, sym, ap, subst, ◌∙◌, arith}
 use Rattle.body_filter.proofs.LawLemmas.{so_far-length, output-length}
 use Rattle.response_rules.specs.declared.deciding.Decider.{Decider}
 use Rattle.response_rules.specs.declared.verdicts.Verdict.{Verdict}
@@ -13,14 +13,7 @@ use Rattle.orb_engine.specs.declared.settings.Job.{Job}
 use Rattle.orb_engine.specs.declared.settings.Job.TheVariants as job
 use Rattle.orb_engine.specs.declared.worker.Worker.{Worker}
 use Rattle.orb_engine.specs.declared.worker.Worker.TheVariants as worker
-use Rattle.std.proofs.lemmas.Fmt.{length-decimal-le}
-use Rattle.media_state.specs.declared.states.MediaState.{MediaState}
-use Rattle.media_state.specs.States.{name_of as state_name}
-use Rattle.media_state.specs.declared.states.MediaState.TheVariants as state
-use Rattle.response_rules.specs.declared.rules.Rule.{Rule}
-use Rattle.response_rules.specs.Rules.{is_allowing, state_after_rule}
-use Rattle.response_rules.proofs.NameLemmas.{name-short}
-use Rattle.orb_engine.specs.Outputs.{verdict_name, line_of, line_by, written_so_far, written_whole}
+use Rattle.orb_engine.specs.Outputs.{line_of, line_by, written_so_far, written_whole}
 use Rattle.orb_engine.specs.Workers.{IsWorkerFor, WorkerReads}
 
 pub so_far-filter : (j : Job) (x : Response) (m : List ℕ) → j ≡ job.Filter → written_so_far j x m ≡ output_so_far x m
@@ -85,30 +78,6 @@ so_far-none j x = by j refl
     by job.Filter is = omega (arith, ap length (so_far-filter j x [] is), so_far-length x [])
     by job.Explain is = omega (arith, ap length (so_far-explain j x [] is))
 
-state-short : (t : MediaState) → length (state_name t) ≤ 10
-state-short state.Na = lit≤ tt
-state-short state.Initial = lit≤ tt
-state-short state.Subsequent = lit≤ tt
-
-verdict-short : (b : Bool) → length (verdict_name b) ≤ 5
-verdict-short true = lit≤ tt
-verdict-short false = lit≤ tt
-
-line-short : (number size : ℕ) (r : Rule) (t : MediaState) → number < 2 ^ 64 → size < 2 ^ 64 → length (line_of number r t size) ≤ 128
-unfolding line_of
-line-short number size r t number_fits size_fits =
-    let a = length-decimal-le 20 number (omega arith) (omega arith) number_fits in
-    let b = length-decimal-le 20 size (omega arith) (omega arith) size_fits in
-    let v = verdict-short (is_allowing r) in
-    let n = name-short r in
-    let k = state-short t in
-    simp length-append (omega arith)
-
-pub whole-most : (s : Settings) (number : ℕ) (x : Response) (m : List ℕ) → number < 2 ^ 64 → length m < 2 ^ 64
-    → length (written_whole s.job number x m) ≤ length x.bytes + 2 * length m + 128
-whole-most s number x m number_fits size_fits = by s.job refl
-  where
-    by : (i : Job) → s.job ≡ i → length (written_whole s.job number x m) ≤ length x.bytes + 2 * length m + 128
-    by job.Filter is = omega (arith, ap length (whole-filter s.job number x m is), output-length x m)
-    by job.Explain is =
-        omega (arith, ap length (whole-explain s.job number x m is), line-short number (length m) (rule_of x.judged m) (state_after_rule x.judged.state (rule_of x.judged m)) number_fits size_fits)
+pub whole-most : (j : Job) (number : ℕ) (x : Response) (m : List ℕ) → j ≡ job.Filter
+    → length (written_whole j number x m) ≤ length x.bytes + 2 * length m + 128
+whole-most j number x m is = omega (arith, ap length (whole-filter j number x m is), output-length x m)

@@ -10,7 +10,8 @@ use Rattle.orb_engine.specs.declared.engine.Engine.{Engine}
 use Rattle.orb_engine.specs.declared.engine.states.State.TheVariants as state
 use Rattle.orb_engine.specs.declared.outcome.EngineOutcome.{EngineOutcome}
 use Rattle.orb_engine.specs.declared.outcome.EngineOutcome.TheVariants as outcome
-use Rattle.orb_engine.specs.Heads.{id_of, state_of, judged_by}
+use Rattle.exchanges.specs.Heads.{id_of, state_of, length_of}
+use Rattle.orb_engine.specs.Judged.{judged_by}
 use Rattle.media_state.specs.Table.{admits, keeps}
 use Rattle.orb_engine.specs.Outputs.{written_exchanges, written_whole}
 use Rattle.orb_engine.specs.Counts.{rules_of_exchanges}
@@ -44,7 +45,7 @@ pub record Closed (e : Engine) (s : Settings) (c : Coming) (given : List ℕ) : 
   pub head : e.head ≡ []
   pub media : e.media
       ≡ keeps (table_of c.exchanges) (id_of c.heads.request.asks)
-      (state_after_rule (state_of (table_of c.exchanges) c.heads) (coming_rule s c))
+      (state_after_rule (state_of (table_of c.exchanges) c.heads) (coming_rule s c) (length_of c.heads))
   pub writer : IsWriterFor e.writer s
   pub offset : e.progress.offset ≡ e.progress.taken
 

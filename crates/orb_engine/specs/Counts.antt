@@ -6,7 +6,8 @@ use Rattle.response_rules.specs.declared.rules.Rule.{Rule}
 use Rattle.response_rules.specs.Rules.{is_allowing}
 use Rattle.response_rules.specs.Tables.{rule_of}
 use Rattle.orb_engine.specs.declared.settings.Settings.{Settings}
-use Rattle.orb_engine.specs.Heads.{judged_by, is_to_end}
+use Rattle.exchanges.specs.Heads.{is_to_end}
+use Rattle.orb_engine.specs.Judged.{judged_by}
 use Rattle.orb_engine.specs.Recording as cut
 use Rattle.orb_engine.specs.Recording.{Exchange, Tail, Recording, table_after_all}
 

@@ -2,7 +2,7 @@
 use Rattle.std.specs.Prelude.{ℕ, ◌+◌, Bool, true, false, [], ◌∷◌, length, if◌then◌else◌}
 use Rattle.http_exchange.specs.declared.refusals.BadKind.{BadKind}
 use Rattle.http_exchange.specs.declared.refusals.BadKind.TheVariants.{BadChunk}
-use Rattle.orb_engine.specs.Heads.{Heads, is_to_end}
+use Rattle.exchanges.specs.Heads.{Heads, is_to_end}
 use Rattle.orb_engine.specs.Recording as cut
 use Rattle.orb_engine.specs.Recording.{Tail, Recording, spell_exchanges}
 

@@ -1,11 +1,9 @@
-pub mod Heads
+pub mod Judged
 pub mod Recording
 pub mod Ends
 pub mod Outputs
 pub mod Counts
 pub mod Refusals
-pub mod HeadReads
-pub mod Media
 pub mod Workers
 pub mod Writing
 pub mod WorkerLaws

@@ -7,12 +7,14 @@ use Rattle.media_state.specs.declared.states.MediaState.{MediaState}
 use Rattle.media_state.specs.States.{name_of as state_name}
 use Rattle.response_rules.specs.declared.rules.Rule.{Rule}
 use Rattle.response_rules.specs.Rules.{name_of, is_allowing, state_after_rule}
+use Rattle.response_rules.specs.Heads.{length_of}
 use Rattle.response_rules.specs.Tables.{rule_of}
 use Rattle.body_filter.specs.Responses.{Response, output_so_far, whole_output}
 use Rattle.orb_engine.specs.declared.settings.Job.{Job}
 use Rattle.orb_engine.specs.declared.settings.Job.TheVariants.{Filter, Explain}
 use Rattle.orb_engine.specs.declared.settings.Settings.{Settings}
-use Rattle.orb_engine.specs.Heads.{response_of, is_to_end}
+use Rattle.exchanges.specs.Heads.{is_to_end}
+use Rattle.orb_engine.specs.Judged.{response_of}
 use Rattle.orb_engine.specs.Recording as cut
 use Rattle.orb_engine.specs.Recording.{Exchange, Tail, Recording, table_after, table_after_all}
 
@@ -31,7 +33,8 @@ line_of number rule state length_ =
 
 -- the line of a response that the rule decides
 abbrev pub line_by : (number : ℕ) → Response → (length_ : ℕ) → Rule → List ℕ
-line_by number x length_ rule = line_of number rule (state_after_rule x.judged.state rule) length_
+line_by number x length_ rule =
+    line_of number rule (state_after_rule x.judged.state rule (length_of x.judged)) length_
 
 -- what is written when these bytes of a body have come
 unfoldable pub written_so_far : Job → Response → List ℕ → List ℕ

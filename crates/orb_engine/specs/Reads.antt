@@ -22,7 +22,8 @@ use Rattle.response_rules.specs.declared.facts.Facts.{Facts}
 use Rattle.body_filter.specs.Responses.{Response}
 use Rattle.http_exchange.specs.declared.frames.BodyFrame.{BodyFrame}
 use Rattle.http_exchange.specs.HeadTexts.{IsHeadText}
-use Rattle.orb_engine.specs.Heads.{RequestText, ResponseText, Heads, AreHeads, IsRequestIn, IsResponseHead, id_of, state_before, judged_by, response_of, is_to_end}
+use Rattle.exchanges.specs.Heads.{RequestText, ResponseText, Heads, AreHeads, IsRequestIn, IsResponseHead, id_of, state_before, is_to_end}
+use Rattle.orb_engine.specs.Judged.{judged_by, response_of}
 use Rattle.media_state.specs.Table.{admits}
 use Rattle.orb_engine.specs.Recording as cut
 use Rattle.orb_engine.specs.Recording.{Exchange, Tail, Recording, IsRecording, AreExchanges, is_open, spell_heads, spell_exchanges, table_after_all}

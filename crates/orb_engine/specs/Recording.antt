@@ -13,7 +13,8 @@ use Rattle.http_exchange.specs.declared.refusals.BadKind.{BadKind}
 use Rattle.http_exchange.specs.declared.frames.BodyFrame.TheVariants as frame
 use Rattle.orb_engine.specs.declared.settings.Settings.{Settings}
 use Rattle.http_exchange.specs.HeadTexts.{IsHeadText, IsOpenHead, IsLongHead}
-use Rattle.orb_engine.specs.Heads.{RequestText, Heads, IsRequestHead, IsRequestIn, AreHeads, id_of, state_of, judged_by}
+use Rattle.exchanges.specs.Heads.{RequestText, Heads, IsRequestHead, IsRequestIn, AreHeads, id_of, state_of, length_of}
+use Rattle.orb_engine.specs.Judged.{judged_by}
 use Rattle.media_state.specs.Table.{IsRefusedId, keeps}
 
 -- a whole exchange
@@ -69,7 +70,7 @@ spell_tail (BadBody h sent body b) rest = spell_heads h (sent ++ (b ∷ rest))
 
 -- the state of its media resource after a whole exchange
 abbrev pub state_after : States → Exchange → MediaState
-state_after table i = state_after_rule (state_of table i.heads) i.rule
+state_after table i = state_after_rule (state_of table i.heads) i.rule (length_of i.heads)
 
 -- the media states after a whole exchange
 abbrev pub table_after : States → Exchange → States

@@ -3,11 +3,11 @@
 mod runs;
 mod states;
 
-use crate::heads::Heads;
 use crate::outcome::EngineOutcome;
 use crate::progress::Progress;
 use crate::settings::Settings;
 use crate::writer::Writer;
+use exchanges::HeadRoom;
 use media_state::MediaTable;
 use orb_io::{NoMemory, Sink};
 pub(crate) use states::Asked;
@@ -18,7 +18,7 @@ use std::alloc::Global;
 #[derive(Drop)]
 pub struct Engine {
     media: MediaTable,
-    head: Heads,
+    head: HeadRoom,
     writer: Writer,
     state: State,
     progress: Progress,
@@ -42,7 +42,7 @@ impl Engine {
         ensures spent { IfOk result IsSpent }
     {
         let media = MediaTable::open(alloc)?;
-        let head = Heads::open(alloc)?;
+        let head = HeadRoom::open(alloc)?;
         let writer = Writer::open(alloc, settings)?;
         Ok(Engine {
             media,

@@ -10,16 +10,13 @@
 //! piece the sink has all output that the bytes so far settle. It takes memory only when it is opened.
 //!
 //! `engine` has the public calls, `engine/states` what it reads next and each step from there on, and
-//! `engine/runs` whole runs. A head is gathered and read by `heads`. What is written goes through `writer`,
+//! `engine/runs` whole runs. Heads are gathered and read by `exchanges`. What is written goes through `writer`,
 //! which lets `worker` filter or explain, and gathers short outputs. `progress` counts.
 #![tactic(auto)]
 
 mod engine;
-mod frames;
-mod heads;
 mod laws;
 mod lines;
-mod media;
 mod outcome;
 mod progress;
 mod settings;

@@ -10,8 +10,9 @@ use response_rules::Rule;
 /// The number of the exchange, the verdict, the rule, the state of the media resource after it, and how
 /// long the body is: one line.
 #[tactic(auto, unfolding(crate::specs::Outputs::line_of))]
-pub(crate) fn line(number: u64, rule: Rule, state: MediaState, length: u64) -> ArrayVec<u8, 96>
-    ensures { result.items ≡ line_of number rule state length }
+pub(crate) fn line(number: u64, rule: Rule, state: MediaState, size: u64) -> ArrayVec<u8, 100>
+    ensures line { result.items ≡ line_of number rule state size }
+    ensures short { length result.items ≤ 100 }
 {
     let mut line = ArrayVec::new();
     extend(&mut line, decimal(number).as_slice());
@@ -20,9 +21,9 @@ pub(crate) fn line(number: u64, rule: Rule, state: MediaState, length: u64) -> A
     extend(&mut line, b" ");
     extend(&mut line, rule.name());
     extend(&mut line, b" ");
-    extend(&mut line, state.name());
+    extend(&mut line, state.name().as_slice());
     extend(&mut line, b" ");
-    extend(&mut line, decimal(length).as_slice());
+    extend(&mut line, decimal(size).as_slice());
     extend(&mut line, b"\n");
     line
 }

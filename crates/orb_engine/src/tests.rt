@@ -121,7 +121,7 @@ fn exchanges_are_filtered_and_explained_in_every_cutting(rt: HostRuntime) -> Res
             Job::Explain,
             EngineOutcome::Done,
             (2, 0),
-            &[b"1 allow media subsequent 5\n2 allow subsequent subsequent 4\n"],
+            &[b"1 allow media subsequent:9 5\n2 allow subsequent subsequent:9 4\n"],
         ),
     ];
     for (parts, job, owed, counts, writes) in rows {

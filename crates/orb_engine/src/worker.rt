@@ -1,5 +1,5 @@
 //! The work on one response: to filter it, or to tell its verdict.
-ghost use Rattle.std.specs.Prelude.{◌≡◌, ◌≤◌, ◌++◌, ℕ, List, [], ◌∷◌, length};
+ghost use Rattle.std.specs.Prelude.{◌≡◌, ◌≤◌, ◌+◌, ◌*◌, ◌++◌, ℕ, List, [], ◌∷◌, length};
 ghost use Rattle.orb_io.specs.Told.{Delivers};
 ghost use Rattle.orb_io.specs.Calls.{Calls};
 ghost use Rattle.response_rules.specs.Heads.{Case};
@@ -99,6 +99,8 @@ impl Worker {
         ensures delivers { (s : Settings) (x : Response) (m : List ℕ) → Works self.old s x m → size ≡ length m
             → Delivers result (O.told sink.old) (O.told sink.new)
             (written_so_far s.job x m) (written_whole s.job number x m) (λ v. IsVerdict x.judged m v) }
+        ensures short { (s : Settings) (x : Response) (m : List ℕ) → Works self.old s x m → size ≡ length m
+            → length (written_whole s.job number x m) ≤ length x.bytes + 2 * length m + 128 }
         ensures calls { Calls O.Sink result sink.old sink.new }
         ensures worker { (s : Settings) → IsWorkerFor self.old s → IsWorkerFor self.new s }
     {

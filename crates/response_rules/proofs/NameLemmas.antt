@@ -11,6 +11,7 @@ name-short rule.Safelisted = lit≤ tt
 name-short rule.NeverSniffed = lit≤ tt
 name-short rule.PartialBlocklisted = lit≤ tt
 name-short rule.NosniffBlocklisted = lit≤ tt
+name-short rule.RangeMismatch = lit≤ tt
 name-short rule.Subsequent = lit≤ tt
 name-short rule.BadRange = lit≤ tt
 name-short rule.Coded = lit≤ tt

@@ -26,7 +26,7 @@ first_rule-part part ((s, false) ∷ rows) r settles is = first_rule-part part r
 head_rows-part : (p : Policy) (h : Case) (r : Rule) → first_rule (head_rows_by p h) ≡ Some r → settled_by r ≡ at_head
 unfolding orb_head_rows corb_head_rows row_of Settles
 head_rows-part Orb h r is =
-    first_rule-part at_head (orb_head_rows h) r (refl, (refl, (refl, (refl, (refl, (refl, (refl, (refl, tt)))))))) is
+    first_rule-part at_head (orb_head_rows h) r (refl, (refl, (refl, (refl, (refl, (refl, (refl, (refl, (refl, tt))))))))) is
 head_rows-part Corb h r is =
     first_rule-part at_head (corb_head_rows h) r (refl, (refl, (refl, (refl, (refl, (refl, tt)))))) is
 

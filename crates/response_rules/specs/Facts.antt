@@ -4,7 +4,7 @@ use Rattle.mime_types.specs.Sets.{is_safelisted_type, is_never_sniffed_type, is_
 use Rattle.header_values.specs.Questions.{is_nosniff, is_coded}
 use Rattle.response_rules.specs.declared.groups.Groups.{Groups}
 use Rattle.response_rules.specs.declared.facts.Facts.{Facts}
-use Rattle.response_rules.specs.Heads.{Case, HasEssence, IsCase, is_in, has_first}
+use Rattle.response_rules.specs.Heads.{Case, HasEssence, IsCase, is_in, has_first, length_of}
 
 -- the groups of an essence; of none no group
 abbrev pub groups_of : Option (List ℕ × List ℕ) → Groups
@@ -36,6 +36,7 @@ facts_of h = record {
   nosniff = is_nosniff h.fields;
   coded = is_coded h.fields;
   from_first = has_first h.fields;
+  complete = length_of h;
   limit = h.limit;
 }
 

@@ -1,5 +1,5 @@
 -- A response that is to be judged, as it is known when its head has been read.
-use Rattle.std.specs.Prelude.{◌≡◌, ℕ, Bool, true, false, ◌==◌, List, Option, Some, None, codes}
+use Rattle.std.specs.Prelude.{◌≡◌, ℕ, Bool, true, false, not, ◌==◌, List, Option, Some, None, option_and_then, codes, if◌then◌else◌}
 use Rattle.mime_types.specs.Mime.{Mime}
 use Rattle.header_values.specs.Joined.{joined}
 use Rattle.header_values.specs.Extracted.{IsExtracted}
@@ -48,26 +48,47 @@ abbrev pub is_first : Option ContentRange → Bool
 is_first None = false
 is_first (Some range) = range.first == 0
 
--- there is a value, and it is such a range
-abbrev pub is_first_value : Option (List ℕ) → Bool
-is_first_value None = false
-is_first_value (Some value) = is_first (range_of value)
+-- the range that Content-Range gives, if it gives one (RFC 9110 14.4)
+unfoldable pub stated_range : List (List ℕ × List ℕ) → Option ContentRange
+stated_range fields = option_and_then range_of (joined fields (codes "Content-Range"))
 
--- Content-Range gives a range that begins at the first byte (RFC 9110 14.4)
-unfoldable pub has_first : List (List ℕ × List ℕ) → Bool
-has_first fields = is_first_value (joined fields (codes "Content-Range"))
+-- there is one, and it begins at the first byte
+abbrev pub has_first : List (List ℕ × List ℕ) → Bool
+has_first fields = is_first (stated_range fields)
+
+-- The complete length of the resource that the response is a part of: the status is 206, Partial Content, and the range
+-- has a number as its complete length.
+abbrev pub stated_length : (status : ℕ) → List (List ℕ × List ℕ) → Option ℕ
+stated_length status fields =
+    if status == 206 then option_and_then (λ range. range.complete) (stated_range fields) else None
+
+-- that of the response
+abbrev pub length_of : Case → Option ℕ
+length_of h = stated_length h.status h.fields
 
 abbrev pub is_na : MediaState → Bool
 is_na state.Na = true
 is_na state.Initial = false
-is_na state.Subsequent = false
+is_na (state.Subsequent kept) = false
 
 abbrev pub is_initial : MediaState → Bool
 is_initial state.Na = false
 is_initial state.Initial = true
-is_initial state.Subsequent = false
+is_initial (state.Subsequent kept) = false
 
 abbrev pub is_subsequent : MediaState → Bool
 is_subsequent state.Na = false
 is_subsequent state.Initial = false
-is_subsequent state.Subsequent = true
+is_subsequent (state.Subsequent kept) = true
+
+-- the complete length of the media resource that the state keeps
+abbrev pub kept_length : MediaState → Option ℕ
+kept_length state.Na = None
+kept_length state.Initial = None
+kept_length (state.Subsequent kept) = kept
+
+-- a length is kept, and a response states another one
+abbrev pub is_other_length : (kept stated : Option ℕ) → Bool
+is_other_length None stated = false
+is_other_length (Some kept) None = false
+is_other_length (Some kept) (Some stated) = not (stated == kept)

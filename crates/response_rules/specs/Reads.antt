@@ -14,7 +14,7 @@ use Rattle.response_rules.specs.declared.text.TextTest.{TextTest}
 use Rattle.response_rules.specs.declared.deciding.Count.{Count}
 use Rattle.response_rules.specs.declared.deciding.Decider.{Decider}
 use Rattle.response_rules.specs.Rules.{is_allowing, state_after_rule}
-use Rattle.response_rules.specs.Heads.{Case, IsCase}
+use Rattle.response_rules.specs.Heads.{Case, IsCase, length_of}
 use Rattle.response_rules.specs.Tables.{window_of, rule_of}
 use Rattle.response_rules.specs.Texts.{is_script, is_json}
 use Rattle.response_rules.specs.Settled.{settled_rule, is_in_text}
@@ -86,4 +86,4 @@ progress_of sent = if sent then Allowed else Open
 pub record IsVerdict (h : Case) (body : List ℕ) (verdict : Verdict) : Type 0 where
   pub rule : verdict.rule ≡ rule_of h body
   pub allow : verdict.allow ≡ is_allowing verdict.rule
-  pub state : verdict.state ≡ state_after_rule h.state verdict.rule
+  pub state : verdict.state ≡ state_after_rule h.state verdict.rule (length_of h)

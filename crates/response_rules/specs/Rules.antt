@@ -1,5 +1,5 @@
 -- The rules by name: whether each allows, and which part of a response settles it.
-use Rattle.std.specs.Prelude.{ℕ, Bool, true, false, List, codes}
+use Rattle.std.specs.Prelude.{ℕ, Bool, true, false, List, Option, codes}
 use Rattle.media_state.specs.States.{state_after}
 use Rattle.media_state.specs.declared.states.MediaState.{MediaState}
 use Rattle.response_rules.specs.declared.rules.Rule.{Rule}
@@ -30,6 +30,7 @@ row_of rule.Safelisted = allow (codes "safelisted") at_head
 row_of rule.NeverSniffed = block (codes "never-sniffed") at_head
 row_of rule.PartialBlocklisted = block (codes "partial-blocklisted") at_head
 row_of rule.NosniffBlocklisted = block (codes "nosniff-blocklisted") at_head
+row_of rule.RangeMismatch = block (codes "range-mismatch") at_head
 row_of rule.Subsequent = allow (codes "subsequent") at_head
 row_of rule.BadRange = block (codes "bad-range") at_head
 row_of rule.Coded = block (codes "coded") at_head
@@ -77,6 +78,12 @@ unfoldable pub is_media_rule : Rule → Bool
 is_media_rule rule.Media = true
 is_media_rule other = false
 
--- the state of the media resource after a response that the rule decides
-abbrev pub state_after_rule : MediaState → Rule → MediaState
-state_after_rule state decided = state_after state (is_media_rule decided)
+-- it lets the response through as a later part of a media resource
+unfoldable pub is_subsequent_rule : Rule → Bool
+is_subsequent_rule rule.Subsequent = true
+is_subsequent_rule other = false
+
+-- the state of the media resource after a response that the rule decides and that states this complete length
+abbrev pub state_after_rule : MediaState → Rule → (complete : Option ℕ) → MediaState
+state_after_rule state decided complete =
+    state_after state (is_media_rule decided) (is_subsequent_rule decided) complete

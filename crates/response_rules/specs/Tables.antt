@@ -12,7 +12,7 @@ use Rattle.response_rules.specs.declared.rules.Rule.{Rule}
 use Rattle.response_rules.specs.declared.rules.Rule.TheVariants as rule
 use Rattle.response_rules.specs.declared.verdicts.Policy.{Policy}
 use Rattle.response_rules.specs.declared.verdicts.Policy.TheVariants.{Orb, Corb}
-use Rattle.response_rules.specs.Heads.{Case, is_in, has_first, is_na, is_initial, is_subsequent}
+use Rattle.response_rules.specs.Heads.{Case, is_in, has_first, length_of, is_na, is_initial, is_subsequent, kept_length, is_other_length}
 
 -- how many bytes of a body are looked at for its type
 unfoldable pub window_size : ℕ
@@ -36,6 +36,7 @@ orb_head_rows h =
       is_nosniff h.fields
           && (is_in is_blocklisted_type h.essence || is_in is_plain_text_type h.essence),
     )
+    ∷ (rule.RangeMismatch, is_other_length (kept_length h.state) (length_of h))
     ∷ (rule.Subsequent, is_subsequent h.state)
     ∷ (rule.BadRange, h.status == 206 && not (has_first h.fields))
     ∷ (rule.Coded, is_coded h.fields)

@@ -14,7 +14,7 @@ use crate::text::TextTest;
 use crate::verdicts::{Policy, Progress, Verdict};
 use arrayvec::ArrayVec;
 use header_values::{Fields, Scratch};
-use media_state::{MediaState, after};
+use media_state::MediaState;
 
 /// How many bytes of a body are looked at for its type.
 const WINDOW: usize = 1024;
@@ -181,13 +181,13 @@ impl Decider {
         ensures verdict { (h : Case) (m : List ℕ) → HasRead self.old h m → IsVerdict h m result }
         ensures over { (h : Case) (m : List ℕ) → HasRead self.new h m → ⊥ }
     {
-        let before = self.facts.state;
+        let (before, complete) = (self.facts.state, self.facts.complete);
         let rule = self.rule();
         self.finished = true;
         Verdict {
             rule,
             allow: rule.allows(),
-            state: after(before, rule.is_media()),
+            state: rule.state_after(before, complete),
         }
     }
 }

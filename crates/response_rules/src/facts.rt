@@ -1,13 +1,12 @@
 //! What the rules ask of a response but its body.
-ghost use Rattle.std.specs.Prelude.{◌≡◌, ◌≤◌, length};
+ghost use Rattle.std.specs.Prelude.{◌≡◌, ◌≤◌, ◌==◌, length, None, option_and_then, if◌then◌else◌};
 ghost use Rattle.header_values.specs.Fields.{AreOfHead, pairs_in};
-ghost use Rattle.response_rules.specs.Heads.{has_first, is_first};
-ghost use Rattle.media_state.specs.Range.{range_of};
+ghost use Rattle.response_rules.specs.Heads.{stated_range, is_first};
 
 use crate::groups::{Groups, read_groups};
 use crate::verdicts::Policy;
 use header_values::{Fields, Scratch, coded, nosniff};
-use media_state::{MediaState, read_content_range};
+use media_state::{ContentRange, MediaState, read_content_range};
 
 /// What the rules ask of a response but its body: its head is read once, and not kept.
 #[derive(Clone, Copy)]
@@ -28,6 +27,8 @@ pub struct Facts {
     pub(crate) coded: bool,
     /// Content-Range gives a range from the first byte on.
     pub(crate) from_first: bool,
+    /// The number of bytes of the whole that the response is a part of, where it states one.
+    pub(crate) complete: Option<u64>,
     /// How many bytes of a body are read for a script.
     pub(crate) limit: u64,
 }
@@ -57,6 +58,7 @@ impl Facts {
         ensures one { (essence : Option (List ℕ × List ℕ)) × HasEssence (pairs_in fields.now) essence }
         ensures kept { scratch.new ≡ scratch.old }
     {
+        let range = stated_range(fields, scratch);
         Facts {
             policy,
             state,
@@ -64,7 +66,8 @@ impl Facts {
             status,
             nosniff: nosniff(fields, scratch),
             coded: coded(fields, scratch),
-            from_first: is_from_first(fields, scratch),
+            from_first: is_first(range),
+            complete: length_in(status, range),
             groups: read_groups(fields, scratch),
             limit,
         }
@@ -80,32 +83,37 @@ impl Facts {
             nosniff: false,
             coded: false,
             from_first: false,
+            complete: None,
             groups: Groups::NONE,
             limit: 0,
         }
     }
 }
 
-/// Whether Content-Range gives a range that begins at the first byte.
-#[tactic(auto, unfolding(crate::specs::Heads::has_first))]
-fn is_from_first(fields: &Fields, scratch: &mut Scratch) -> bool
+/// The range that Content-Range gives, if it gives one.
+#[tactic(auto, unfolding(crate::specs::Heads::stated_range))]
+fn stated_range(fields: &Fields, scratch: &mut Scratch) -> Option<ContentRange>
     requires fields { AreOfHead fields.now }
     requires room { length fields.now.head.now ≤ scratch.old }
-    ensures value { result ≡ has_first (pairs_in fields.now) }
+    ensures value { result ≡ stated_range (pairs_in fields.now) }
     ensures kept { scratch.new ≡ scratch.old }
 {
-    match scratch.join(fields, b"Content-Range") {
-        Some(value) => begins_at_first(value),
+    read_content_range(scratch.join(fields, b"Content-Range")?)
+}
+
+/// Whether there is a range, and it begins at the first byte.
+fn is_first(range: Option<ContentRange>) -> bool
+    ensures { result ≡ is_first range }
+{
+    match range {
+        Some(range) => range.first == 0,
         None => false,
     }
 }
 
-/// Whether the value is a range that begins at the first byte.
-fn begins_at_first(value: &[u8]) -> bool
-    ensures { result ≡ is_first (range_of value.now) }
+/// The number of bytes of the whole that a response with this status and range is a part of, where it states one.
+fn length_in(status: u16, range: Option<ContentRange>) -> Option<u64>
+    ensures { result ≡ (if status == 206 then option_and_then (λ range. range.complete) range else None) }
 {
-    match read_content_range(value) {
-        Some(range) => range.first == 0,
-        None => false,
-    }
+    if status == 206 { range?.complete } else { None }
 }

@@ -1,6 +1,8 @@
 //! The rules by name, in the order in which they are asked.
 ghost use Rattle.std.specs.Prelude.{◌≡◌, ◌≤◌, true, false, length};
-ghost use Rattle.response_rules.specs.Rules.{name_of, is_allowing, is_media_rule};
+ghost use Rattle.response_rules.specs.Rules.{name_of, is_allowing, state_after_rule};
+
+use media_state::{MediaState, after};
 
 /// A rule of Opaque Response Blocking or of Cross-Origin Read Blocking, by what holds where it decides: none before it
 /// does.
@@ -16,6 +18,8 @@ pub enum Rule {
     PartialBlocklisted,
     /// The type is HTML, JSON, XML or plain text, and isn't to be guessed.
     NosniffBlocklisted,
+    /// A part of a media resource that states another complete length than a part that was let through before.
+    RangeMismatch,
     /// A part of a media resource that was let through before.
     Subsequent,
     /// A part of a body that doesn't begin with the first byte.
@@ -116,12 +120,16 @@ impl Rule {
         self.row().allows
     }
 
-    /// Whether it lets the response through as audio or video.
-    #[tactic(auto, unfolding(crate::specs::Rules::is_media_rule))]
-    pub(crate) fn is_media(self) -> bool
-        ensures { result ≡ is_media_rule self }
+    /// The state of the media resource after a response that it decides and that states this complete length.
+    #[tactic(auto, unfolding(crate::specs::Rules::is_media_rule, crate::specs::Rules::is_subsequent_rule))]
+    pub(crate) fn state_after(self, state: MediaState, complete: Option<u64>) -> MediaState
+        ensures { result ≡ state_after_rule state self complete }
     {
-        matches!(self, Rule::Media)
+        match self {
+            Rule::Media => after(state, true, false, complete),
+            Rule::Subsequent => after(state, false, true, complete),
+            _ => state,
+        }
     }
 
     /// Its row of the table.
@@ -137,6 +145,7 @@ impl Rule {
             Rule::NeverSniffed => block(b"never-sniffed"),
             Rule::PartialBlocklisted => block(b"partial-blocklisted"),
             Rule::NosniffBlocklisted => block(b"nosniff-blocklisted"),
+            Rule::RangeMismatch => block(b"range-mismatch"),
             Rule::Subsequent => allow(b"subsequent"),
             Rule::BadRange => block(b"bad-range"),
             Rule::Coded => block(b"coded"),

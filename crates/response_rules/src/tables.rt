@@ -1,7 +1,7 @@
 //! The tables of the rules.
 ghost use Rattle.std.specs.Prelude.{◌≡◌, ◌&&◌};
 ghost use Rattle.corb_sniffers.specs.Values as value;
-ghost use Rattle.response_rules.specs.Heads.{Case, is_na, is_initial, is_subsequent};
+ghost use Rattle.response_rules.specs.Heads.{Case, is_na, is_initial, is_subsequent, kept_length, is_other_length};
 ghost use Rattle.response_rules.specs.Tables.{first_rule, orb_head_rows, orb_window_rows, corb_head_rows, corb_window_rows};
 ghost use Rattle.response_rules.specs.Settled.{head_rule_of, rule_in_window};
 ghost use Rattle.response_rules.specs.Facts.{facts_of};
@@ -47,6 +47,10 @@ fn orb_rule_of_head(facts: &Facts) -> Option<Rule>
         (
             Rule::NosniffBlocklisted,
             facts.nosniff & (groups.blocklisted | groups.plain_text),
+        ),
+        (
+            Rule::RangeMismatch,
+            is_other_length(kept_length(facts.state), facts.complete),
         ),
         (Rule::Subsequent, is_subsequent_state(facts.state)),
         (Rule::BadRange, partial & !facts.from_first),
@@ -160,5 +164,25 @@ fn is_initial_state(state: MediaState) -> bool
 fn is_subsequent_state(state: MediaState) -> bool
     ensures { result ≡ is_subsequent state }
 {
-    matches!(state, MediaState::Subsequent)
+    matches!(state, MediaState::Subsequent { .. })
+}
+
+/// The complete length of the media resource that the state keeps.
+fn kept_length(state: MediaState) -> Option<u64>
+    ensures { result ≡ kept_length state }
+{
+    match state {
+        MediaState::Subsequent { complete } => complete,
+        MediaState::Na | MediaState::Initial => None,
+    }
+}
+
+/// Whether a length is kept, and a response states another one.
+fn is_other_length(kept: Option<u64>, stated: Option<u64>) -> bool
+    ensures { result ≡ is_other_length kept stated }
+{
+    match (kept, stated) {
+        (Some(kept), Some(stated)) => stated != kept,
+        _ => false,
+    }
 }

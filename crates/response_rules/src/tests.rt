@@ -50,6 +50,18 @@ const FIRST: Field = ("Content-Range", "bytes 0-1023/9000");
 
 const LATER: Field = ("Content-Range", "bytes 1-1024/9000");
 
+const LONGER: Field = ("Content-Range", "bytes 1-1024/9001");
+
+const UNKNOWN: Field = ("Content-Range", "bytes 0-1023/*");
+
+/// The state of a media resource of which parts were let through that didn't state its length.
+const SEEN: MediaState = Subsequent { complete: None };
+
+/// The state of one that is of 9,000 bytes.
+const KNOWN: MediaState = Subsequent {
+    complete: Some(9000),
+};
+
 const X: Body = &[(1, b"x")];
 
 const GIF: Body = &[(1, b"GIF89a")];
@@ -59,7 +71,7 @@ const OGGS: Body = &[(1, b"OggS\0")];
 const LONG_OGGS: Body = &[(1, b"OggS\0"), (1019, b"\0")];
 
 /// A response that the rule decides, and one that differs in a field or a byte.
-const BY_HEAD: [Row; 31] = [
+const BY_HEAD: [Row; 30] = [
     (Na, 200, &[CSS], X, "safelisted"),
     (Na, 200, &[SVG, NOSNIFF], X, "safelisted"),
     (Na, 200, &[CSS, GZIP], X, "safelisted"),
@@ -85,8 +97,7 @@ const BY_HEAD: [Row; 31] = [
         "nosniff",
     ),
     (Na, 200, &[PLAIN], X, "script"),
-    (Subsequent, 200, &[], X, "subsequent"),
-    (Subsequent, 206, &[LATER], X, "subsequent"),
+    (SEEN, 200, &[], X, "subsequent"),
     (Initial, 200, &[], X, "media-expected"),
     (Na, 206, &[LATER], X, "bad-range"),
     (Initial, 206, &[OGG, LATER], LONG_OGGS, "bad-range"),
@@ -111,20 +122,55 @@ const BY_HEAD: [Row; 31] = [
     (Na, 199, &[OCTETS], X, "not-ok"),
 ];
 
+/// A response to a request for media, and the state that it leaves.
+const BY_LENGTH: [(Row, MediaState); 14] = [
+    ((Initial, 206, &[OGG, FIRST], LONG_OGGS, "media"), KNOWN),
+    ((Initial, 206, &[OGG, UNKNOWN], OGGS, "media"), SEEN),
+    ((Initial, 200, &[OGG, FIRST], OGGS, "media"), SEEN),
+    ((SEEN, 206, &[LATER], X, "subsequent"), KNOWN),
+    ((SEEN, 206, &[UNKNOWN], X, "subsequent"), SEEN),
+    ((SEEN, 200, &[LATER], X, "subsequent"), SEEN),
+    ((KNOWN, 206, &[LATER], X, "subsequent"), KNOWN),
+    ((KNOWN, 206, &[LONGER], X, "range-mismatch"), KNOWN),
+    ((KNOWN, 206, &[LONGER, GZIP], OGGS, "range-mismatch"), KNOWN),
+    ((KNOWN, 200, &[LONGER], X, "subsequent"), KNOWN),
+    ((KNOWN, 206, &[UNKNOWN], X, "subsequent"), KNOWN),
+    ((KNOWN, 206, &[], X, "subsequent"), KNOWN),
+    (
+        (
+            KNOWN,
+            206,
+            &[HTML, NOSNIFF, LONGER],
+            X,
+            "partial-blocklisted",
+        ),
+        KNOWN,
+    ),
+    (
+        (
+            KNOWN,
+            206,
+            &[PLAIN, NOSNIFF, LONGER],
+            X,
+            "nosniff-blocklisted",
+        ),
+        KNOWN,
+    ),
+];
+
 const MP4: Field = ("Content-Type", "video/mp4");
 
 const WEBM: &[u8] = b"\x1a\x45\xdf\xa3\x9f\x42\x82\x84webm";
 
 const FRAME: &[u8] = b"\xff\xfb\x90\0";
 
-const BY_WINDOW: [Row; 25] = [
+const BY_WINDOW: [Row; 24] = [
     (Na, 200, &[], OGGS, "media-unexpected"),
     (Na, 206, &[OGG, FIRST], LONG_OGGS, "media-unexpected"),
     (Na, 200, &[], &[(1, b"OggS\x01")], "untyped"),
     (Initial, 404, &[], OGGS, "media-status"),
     (Initial, 201, &[], OGGS, "media-status"),
     (Initial, 200, &[], OGGS, "media"),
-    (Initial, 206, &[OGG, FIRST], LONG_OGGS, "media"),
     (Initial, 200, &[], &[(1, b"OggS")], "media-expected"),
     (Initial, 200, &[], GIF, "media-expected"),
     (
@@ -226,12 +272,13 @@ const BY_TEXT: [Text; 32] = [
     (0, &[(1, b"x")], "body-limit"),
 ];
 
-const BY_CORB: [Row; 28] = [
+const BY_CORB: [Row; 29] = [
     (Na, 200, &[CSS], X, "corb-safelisted"),
     (Na, 200, &[CSV], X, "corb-never-sniffed"),
     (Na, 206, &[HTML], X, "corb-partial"),
     (Na, 206, &[PLAIN], X, "corb-partial"),
     (Na, 206, &[OCTETS], X, "corb-unprotected"),
+    (KNOWN, 206, &[OCTETS, LONGER], X, "corb-unprotected"),
     (Na, 200, &[XML, NOSNIFF], X, "corb-nosniff"),
     (Na, 200, &[PLAIN, NOSNIFF], X, "corb-nosniff"),
     (Na, 200, &[OCTETS, NOSNIFF], X, "corb-unprotected"),
@@ -355,14 +402,14 @@ fn check(
     policy: Policy,
     limit: u64,
     row: &Row,
+    left: MediaState,
 ) -> Result<(), Fail> {
-    let (state, _, _, _, rule) = *row;
-    let after = if rule == "media" { Subsequent } else { state };
+    let (_, _, _, _, rule) = *row;
     for size in [1, 7, 4_194_304] {
         let verdict = judge(alloc, policy, limit, row, true, size)?;
         assert_eq!(rt; verdict.rule.name(), rule.as_bytes(), "{rule}");
         assert_eq!(rt; verdict.allow, verdict.rule.allows(), "{rule}");
-        assert_eq!(rt; verdict.state, after, "{rule}");
+        assert_eq!(rt; verdict.state, left, "{rule}");
     }
     let passed = judge(alloc, policy, limit, row, false, 1)?;
     assert_eq!(rt; passed.rule, Rule::NotOpaque, "{rule}");
@@ -372,10 +419,14 @@ fn check(
 #[test]
 fn first_rule_that_holds_decides(rt: HostRuntime) -> Result<(), Fail> {
     for row in BY_HEAD {
-        check(&rt, rt.alloc(), Policy::Orb, LIMIT, &row)?;
+        check(&rt, rt.alloc(), Policy::Orb, LIMIT, &row, row.0)?;
+    }
+    for (row, left) in BY_LENGTH {
+        check(&rt, rt.alloc(), Policy::Orb, LIMIT, &row, left)?;
     }
     for row in BY_WINDOW {
-        check(&rt, rt.alloc(), Policy::Orb, LIMIT, &row)?;
+        let left = if row.4 == "media" { SEEN } else { row.0 };
+        check(&rt, rt.alloc(), Policy::Orb, LIMIT, &row, left)?;
     }
     Ok(())
 }
@@ -389,6 +440,7 @@ fn text_is_judged_whole(rt: HostRuntime) -> Result<(), Fail> {
             Policy::Orb,
             limit,
             &(Na, 200, &[OCTETS], body, rule),
+            Na,
         )?;
     }
     Ok(())
@@ -397,7 +449,7 @@ fn text_is_judged_whole(rt: HostRuntime) -> Result<(), Fail> {
 #[test]
 fn corb_has_rules_of_its_own(rt: HostRuntime) -> Result<(), Fail> {
     for row in BY_CORB {
-        check(&rt, rt.alloc(), Policy::Corb, LIMIT, &row)?;
+        check(&rt, rt.alloc(), Policy::Corb, LIMIT, &row, row.0)?;
     }
     Ok(())
 }

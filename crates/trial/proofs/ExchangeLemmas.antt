@@ -10,12 +10,13 @@ use Rattle.http_exchange.specs.declared.request.RequestHead.{RequestHead}
 use Rattle.http_exchange.specs.declared.frames.BodyFrame.{BodyFrame}
 use Rattle.http_exchange.specs.declared.frames.BodyFrame.TheVariants.{Length, Chunked}
 use Rattle.orb_engine.specs.declared.settings.Settings.{Settings}
-use Rattle.orb_engine.specs.Heads as heads
-use Rattle.orb_engine.specs.Heads.{RequestText, ResponseText, Heads, IsRequestHead, IsRequestIn, AreHeads, judged_by}
+use Rattle.exchanges.specs.Heads as heads
+use Rattle.exchanges.specs.Heads.{RequestText, ResponseText, Heads, IsRequestHead, IsRequestIn, AreHeads}
+use Rattle.orb_engine.specs.Judged.{judged_by}
 use Rattle.orb_engine.specs.Recording.{Exchange, IsExchange, spell_exchange, table_after, state_after}
 use Rattle.trial.specs.declared.kinds.Kind.{Kind}
 use Rattle.trial.specs.declared.kinds.Kind.TheVariants.{Javascript, Nosniff, Png, Script, Json, Text, Jpeg, Media}
-use Rattle.trial.specs.Texts.{head_text}
+use Rattle.http_exchange.specs.Messages.{head_text}
 use Rattle.trial.specs.Trials.{request_line, request_of, status_line, fields_of, body_of, sent_of, exchange_text}
 use Rattle.trial.proofs.Requests.{plain_asks, media_asks, plain_is_request, media_is_request}
 use Rattle.trial.proofs.ResponseKinds as responses

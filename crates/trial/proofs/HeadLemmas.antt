@@ -12,7 +12,7 @@ use Rattle.orb_bytes.specs.Ascii.{space, colon, carriage_return, line_feed}
 use Rattle.orb_bytes.specs.Ascii as ascii
 use Rattle.http_exchange.specs.Fields.{pairs_of}
 use Rattle.http_exchange.specs.Head.{head_length}
-use Rattle.trial.specs.Texts.{field_line, head_text}
+use Rattle.http_exchange.specs.Messages.{field_line, head_text}
 
 -- a field that can be written so: a token, and a value of which nothing is trimmed
 pub record IsPlain (f : List ℕ × List ℕ) : Type 0 where

@@ -14,8 +14,8 @@ use Rattle.http_exchange.specs.HeadTexts.{head_limit}
 use Rattle.http_exchange.specs.RequestFields as asks
 use Rattle.http_exchange.specs.RequestFields.{value_of, has_body, is_opaque, is_for_media}
 use Rattle.http_exchange.specs.declared.request.RequestHead.{RequestHead}
-use Rattle.orb_engine.specs.Heads.{IsRequestHead}
-use Rattle.trial.specs.Texts.{head_text}
+use Rattle.exchanges.specs.Heads.{IsRequestHead}
+use Rattle.http_exchange.specs.Messages.{head_text}
 use Rattle.trial.specs.Trials.{request_line, plain_request, media_request}
 use Rattle.trial.proofs.Decimals.{trimmed-decimal, decimal_of-decimal, decimal-value, trim_ows-decimal}
 use Rattle.trial.proofs.HeadLemmas.{IsPlain, ArePlain, tree_of, trees_of, print_section-trees, pairs-trees, AreFields-trees, head_ends, length-last}

@@ -15,7 +15,7 @@ use Rattle.response_rules.specs.Heads.{HasEssence}
 use Rattle.http_exchange.specs.ResponseFields.{frame_of, sized}
 use Rattle.http_exchange.specs.declared.frames.BodyFrame.TheVariants.{Length, Chunked}
 use Rattle.trial.specs.declared.kinds.Kind.TheVariants.{Javascript, Nosniff, Png, Script, Json, Text, Jpeg, Media}
-use Rattle.trial.specs.Texts.{field_line, head_text}
+use Rattle.http_exchange.specs.Messages.{field_line, head_text}
 use Rattle.trial.specs.Trials.{fields_of, whole_range}
 use Rattle.trial.proofs.Decimals.{decimal_of-decimal, decimal-value, decimal-digits, trim_ows-decimal, trim_ows-digits, parts_of-decimal}
 use Rattle.trial.proofs.HeadLemmas.{IsPlain, length-last}

@@ -13,8 +13,8 @@ use Rattle.http_exchange.specs.Heads.{IsResponse}
 use Rattle.http_exchange.specs.HeadTexts.{head_limit}
 use Rattle.http_exchange.specs.ResponseFields.{frame_of}
 use Rattle.http_exchange.specs.declared.frames.BodyFrame.{BodyFrame}
-use Rattle.orb_engine.specs.Heads.{ResponseText, IsResponseHead}
-use Rattle.trial.specs.Texts.{head_text}
+use Rattle.exchanges.specs.Heads.{ResponseText, IsResponseHead}
+use Rattle.http_exchange.specs.Messages.{head_text}
 use Rattle.trial.proofs.HeadLemmas.{ArePlain, tree_of, trees_of, print_section-trees, pairs-trees, AreFields-trees, head_ends, is_no_end}
 
 -- a status line as the grammar has it

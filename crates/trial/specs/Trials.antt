@@ -4,7 +4,8 @@ use Rattle.std.specs.List.{repeat}
 use Rattle.orb_bytes.specs.Ascii.{nul, line_feed, solidus, crlf}
 use Rattle.trial.specs.declared.kinds.Kind.{Kind}
 use Rattle.trial.specs.declared.kinds.Kind.TheVariants.{Javascript, Nosniff, Png, Script, Json, Text, Jpeg, Media}
-use Rattle.trial.specs.Texts.{head_text, chunked_text}
+use Rattle.http_exchange.specs.Messages.{head_text}
+use Rattle.trial.specs.Texts.{chunked_text}
 
 -- the kinds, in the order in which they follow one another
 abbrev pub kinds : List Kind

@@ -1,6 +1,6 @@
 //! The heads of an exchange.
 ghost use Rattle.std.specs.Prelude.{◌≡◌, ◌+◌, ◌<◌, ◌≤◌, ◌++◌, [], ◌∷◌, length, codes};
-ghost use Rattle.trial.specs.Texts.{field_line, head_text};
+ghost use Rattle.http_exchange.specs.Messages.{field_line, head_text};
 ghost use Rattle.orb_bytes.specs.Ascii.{crlf};
 ghost use Rattle.trial.specs.declared.kinds.Kind.TheVariants.{Media};
 ghost use Rattle.trial.specs.Trials.{request_line, request_of, status_line, fields_of, content_type, content_length, whole_range as the_range};

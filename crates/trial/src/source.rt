@@ -4,8 +4,8 @@ ghost use Rattle.std.specs.Io.{ReadsAtMost};
 ghost use Rattle.orb_io.specs.Told.{Pulls, HasCause};
 ghost use Rattle.trial.specs.Trials.{trial_of};
 
-use crate::exchanges::write_exchange;
 use crate::heads::ROOM;
+use crate::numbered::write_exchange;
 use arrayvec::ArrayVec;
 use orb_io::{Failed, Source};
 use std::marker::Model;

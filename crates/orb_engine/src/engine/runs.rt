@@ -1,7 +1,7 @@
 //! A whole run over a recording.
-ghost use Rattle.std.specs.Prelude.{◌≡◌, ◌≤◌, ◌<◌, ◌+◌, ◌^◌, ◌++◌, ℕ, List, [], Some, None, length, IfOk};
+ghost use Rattle.std.specs.Prelude.{◌≡◌, ◌≤◌, ◌<◌, ◌+◌, ◌^◌, ◌++◌, ℕ, List, [], Some, None, length};
 ghost use Rattle.std.specs.Result.{ForOk};
-ghost use Rattle.orb_io.specs.Told.{Gives, Pulls, HasCause};
+ghost use Rattle.orb_io.specs.Told.{Gives, HasCause};
 ghost use Rattle.orb_engine.specs.declared.settings.Settings.{Settings};
 ghost use Rattle.orb_engine.specs.declared.outcome.EngineOutcome.{EngineOutcome};
 ghost use Rattle.orb_engine.specs.Runs.{settings_of, taken_by, HasRead, CanFeed, Ran, RunCauses};
@@ -9,10 +9,7 @@ ghost use Rattle.orb_engine.specs.Turns.{piece_of, is_ended, TurnAnswers, TurnCa
 
 use super::Engine;
 use crate::outcome::EngineOutcome;
-use orb_io::{Duplex, Failed, Sink, Source};
-
-/// The most bytes that one run takes.
-const RUN: u64 = 1 << 62;
+use orb_io::{Duplex, Failed, MOST_OF_A_RUN, Sink, Source, pull_within};
 
 /// The most bytes that one pull gives.
 const PULL: usize = 8192;
@@ -31,7 +28,7 @@ impl Engine {
         self.start();
         let mut room = [0u8; PULL];
         'pulls: loop {
-            let pulled = pull_some(input, &mut room, size_of_pull(self.progress.taken()));
+            let pulled = pull_within(input, &mut room, self.progress.taken());
             if let Some(outcome) = self.turn(pulled, &room, output) {
                 return outcome;
             }
@@ -49,7 +46,7 @@ impl Engine {
         self.start();
         let mut room = [0u8; PULL];
         'pulls: loop {
-            let pulled = pull_some(link, &mut room, size_of_pull(self.progress.taken()));
+            let pulled = pull_within(link, &mut room, self.progress.taken());
             if let Some(outcome) = self.turn(pulled, &room, link) {
                 return outcome;
             }
@@ -81,37 +78,9 @@ impl Engine {
     {
         match pulled {
             Ok(0) => Some(self.end(output)),
-            Ok(_) if self.progress.taken() == RUN => Some(EngineOutcome::Endless),
+            Ok(_) if self.progress.taken() == MOST_OF_A_RUN => Some(EngineOutcome::Endless),
             Ok(count) => self.feed(&room[..count], output),
             Err(_) => Some(EngineOutcome::ReadFault),
         }
     }
-}
-
-/// How many bytes the next pull may give, by how many were taken: no more than are left of a run, where there
-/// are any left.
-fn size_of_pull(taken: u64) -> usize
-    requires { taken ≤ 2 ^ 62 }
-    ensures some { 1 ≤ result }
-    ensures most { result ≤ 8192 }
-    ensures few { taken < 2 ^ 62 → taken + result ≤ 2 ^ 62 }
-{
-    let left = RUN - taken;
-    if left == 0 || left >= PULL as u64 {
-        PULL
-    } else {
-        left as usize
-    }
-}
-
-/// Pulls into the first places of the room, of this size.
-fn pull_some<I: Source>(input: &mut I, room: &mut [u8], size: usize) -> Result<usize, Failed>
-    requires some { 1 ≤ size }
-    requires within { size ≤ length room.old }
-    ensures bound { IfOk result (λ n. n ≤ size) }
-    ensures bytes { Pulls (I.left input.old) (I.left input.new) result room.new }
-    ensures cause { HasCause (I.faults input.old) (I.faults input.new) result }
-    ensures keeps { I.kept input.old input.new }
-{
-    input.pull(&mut room[..size])
 }

@@ -23,9 +23,9 @@
 //! Nothing else changes the state but `Engine::start`, and the end of `feed` and `end`, which make it `Idle`.
 
 use super::Engine;
-use crate::frames::{is_chunked, is_to_end};
-use crate::media::{enter, id_of};
 use crate::outcome::EngineOutcome;
+use crate::settings::Settings;
+use exchanges::{Context, enter, id_of, is_chunked, is_to_end};
 use http_exchange::{BadKind, BodyFrame, HeadTaken, RequestHead, Taken, Unframer};
 use media_state::MediaState;
 use orb_io::Sink;
@@ -64,6 +64,23 @@ pub(crate) struct Incoming {
     to_end: bool,
     // The id of the media resource.
     id: Option<u64>,
+}
+
+impl Asked {
+    ghost use Rattle.std.specs.Prelude.{◌≡◌};
+    ghost use Rattle.orb_engine.specs.Judged.{context_of};
+
+    /// What the response is judged by besides its own head.
+    fn context(self, settings: Settings) -> Context
+        ensures { result ≡ context_of settings self.asks self.state }
+    {
+        Context {
+            policy: settings.policy,
+            state: self.state,
+            asks: self.asks,
+            limit: settings.limit,
+        }
+    }
 }
 
 impl State {
@@ -228,7 +245,7 @@ impl Engine {
             (HasResponse IsHeadText asked self.old) (Settles result self.new) }
         ensures settings { self.new.writer.settings ≡ self.old.writer.settings }
     {
-        match self.head.response(asked, self.writer.settings) {
+        match self.head.response(asked.context(self.writer.settings)) {
             Ok((facts, frame)) => self.begin_body(asked, facts, frame, output),
             Err(kind) => Err(EngineOutcome::Bad {
                 kind,

@@ -1,5 +1,5 @@
 use Rattle.std.proofs.Common.{codes}
-use Rattle.trial.specs.Texts.{field_line}
+use Rattle.http_exchange.specs.Messages.{field_line}
 use Rattle.trial.specs.Trials.{content_type, content_length, whole_range}
 use Rattle.trial.proofs.SourceLemmas.{three_fields}
 use Rattle.trial.proofs.heads.append_range.Goals as goal

@@ -1,5 +1,5 @@
 use Rattle.std.proofs.Common.{codes, refl}
-use Rattle.trial.specs.Texts.{field_line}
+use Rattle.http_exchange.specs.Messages.{field_line}
 use Rattle.trial.specs.Trials.{content_type, content_length}
 use Rattle.trial.proofs.SourceLemmas.{one_field, three_fields, two_fields_end}
 use Rattle.trial.proofs.heads.append_response.Goals as goal

@@ -1,5 +1,5 @@
 use Rattle.std.proofs.Common.{codes}
-use Rattle.trial.specs.Texts.{field_line}
+use Rattle.http_exchange.specs.Messages.{field_line}
 use Rattle.trial.specs.Trials.{content_type, content_length}
 use Rattle.trial.proofs.SourceLemmas.{two_fields}
 use Rattle.trial.proofs.heads.append_typed.Goals as goal

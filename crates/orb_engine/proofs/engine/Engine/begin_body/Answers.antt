@@ -2,7 +2,7 @@ use Rattle.std.proofs.Common.{◌++◌, refl}
 use Rattle.response_rules.specs.declared.facts.Facts.{Facts}
 use Rattle.http_exchange.specs.declared.frames.BodyFrame.{BodyFrame}
 use Rattle.orb_io.proofs.GivesLemmas.{Gives-weaker, Gives-then}
-use Rattle.orb_engine.specs.Heads.{judged_by}
+use Rattle.orb_engine.specs.Judged.{judged_by}
 use Rattle.orb_engine.specs.Reads.{table_of}
 use Rattle.orb_engine.proofs.BeginLemmas.{begun, same-exchange, begun-fills, begun-breaks}
 use Rattle.orb_engine.proofs.StepLemmas.{Causes-after}

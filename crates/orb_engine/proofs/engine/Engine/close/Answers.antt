@@ -4,7 +4,7 @@ use Rattle.orb_io.specs.Told.{IsPrefix}
 use Rattle.orb_io.proofs.GivesLemmas.{Gives-weaker}
 use Rattle.response_rules.specs.declared.rules.Rule.{Rule}
 use Rattle.response_rules.specs.Rules.{is_allowing}
-use Rattle.orb_engine.specs.Heads.{id_of}
+use Rattle.exchanges.specs.Heads.{id_of}
 use Rattle.orb_engine.specs.Outputs.{written_exchanges, written_whole}
 use Rattle.orb_engine.specs.Counts.{rules_of_exchanges}
 use Rattle.orb_engine.specs.Reads.{table_of, counts_of, coming_response}
@@ -12,7 +12,8 @@ use Rattle.orb_engine.specs.declared.progress.Progress.{Progress}
 use Rattle.orb_engine.specs.Progress.{count_with}
 use Rattle.orb_engine.specs.Closing.{coming_rule}
 use Rattle.orb_engine.proofs.CutLemmas.{counts-snoc}
-use Rattle.orb_engine.proofs.ClosingLemmas.{kept-admitted, stored-keeps, number-is, told-more}
+use Rattle.orb_engine.proofs.ClosingLemmas.{stored-keeps, number-is, told-more}
+use Rattle.exchanges.proofs.TableLemmas.{kept-admitted}
 use Rattle.orb_engine.proofs.engine.Engine.close.Goals as goal
 
 pub leave-requires : goal.leave-requires

@@ -21,7 +21,7 @@ pulls-init g c = record {
 pub returns-in-Some-clause-ran : goal.returns-in-Some-clause-ran
 returns-in-Some-clause-ran g c =
     let s = settings_of c.args.self.now in
-    let pull = c.pull_some-pulled in
+    let pull = c.pull_within-pulled in
     Gives-then _ _ _ [] _ _ c.pulls.invariant.runs (λ more w.
     Gives-weaker _ _ more _ _ (λ further answers.
     run-ends c.turn.result c.in-Some.outcome pull.result c.pulls.self c.turn.new.self s _ _ _ pull.new.room more (more ++ further)
@@ -32,7 +32,7 @@ pub pulls-preserved : goal.pulls-preserved
 pulls-preserved g c =
     let i = c.pulls.invariant in
     let s = settings_of c.args.self.now in
-    let pull = c.pull_some-pulled in
+    let pull = c.pull_within-pulled in
     let causes = causes-go c.turn.result _ _ _ _ c.in_default.is (c.turn.ensures.causes _ _ pull.ensures.cause) in
     record {
       runs = Gives-then _ _ _ [] _ _ i.runs (λ more w.

@@ -21,7 +21,7 @@ pulls-init g c = record {
 pub returns-in-Some-clause-ran : goal.returns-in-Some-clause-ran
 returns-in-Some-clause-ran g c =
     let s = settings_of c.args.self.now in
-    let pull = c.pull_some-pulled in
+    let pull = c.pull_within-pulled in
     let R = Running c.pulls.self s (g.K.Source.left c.args.link.now) (g.K.Source.left c.pulls.link) in
     let runs = subst (λ (t : Told). Gives (g.K.Sink.told c.args.link.now) t [] R) (sym (g.met.K.Duplex.pull_leaves_told _ _ pull.ensures.keeps))
     c.pulls.invariant.runs in
@@ -35,7 +35,7 @@ returns-in-Some-clause-ran g c =
 
 pub returns-in-Some-clause-causes : goal.returns-in-Some-clause-causes
 returns-in-Some-clause-causes g c =
-    let pull = c.pull_some-pulled in
+    let pull = c.pull_within-pulled in
     let causes = causes-end c.turn.result c.in-Some.outcome _ _ _ _ c.in-Some.is (c.turn.ensures.causes _ _ pull.ensures.cause) in
     rw (g.met.K.Duplex.push_leaves_faults _ _ c.turn.ensures.keeps, ← c.pulls.invariant.source, ← c.pulls.invariant.sink, ← (g.met.K.Duplex.pull_leaves_faults _ _ pull.ensures.keeps)) causes
 
@@ -43,7 +43,7 @@ pub pulls-preserved : goal.pulls-preserved
 pulls-preserved g c =
     let s = settings_of c.args.self.now in
     let i = c.pulls.invariant in
-    let pull = c.pull_some-pulled in
+    let pull = c.pull_within-pulled in
     let R = Running c.pulls.self s (g.K.Source.left c.args.link.now) (g.K.Source.left c.pulls.link) in
     let runs = subst (λ (t : Told). Gives (g.K.Sink.told c.args.link.now) t [] R) (sym (g.met.K.Duplex.pull_leaves_told _ _ pull.ensures.keeps))
     i.runs in

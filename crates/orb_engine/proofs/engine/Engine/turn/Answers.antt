@@ -21,7 +21,7 @@ pub returns-in-Ok-clause-answers : goal.returns-in-Ok-clause-answers
 returns-in-Ok-clause-answers g c = λ s m given reads.
     Gives-none _ given _ (g.met.O.Sink.told_agrees c.args.output.now)
     (turn-endless c.args.pulled c.in-Ok.field-0 c.args.self.now s m given c.args.room.now
-    c.in-Ok.is (λ z. c.in-Ok.field-0-test.1 (c.in-Ok.field-0-is ∙ z)) (c.requires.within _ c.in-Ok.is) (sym c.taken.ensures ∙ c.if-taken-eq-RUN.true) reads)
+    c.in-Ok.is (λ z. c.in-Ok.field-0-test.1 (c.in-Ok.field-0-is ∙ z)) (c.requires.within _ c.in-Ok.is) (sym c.taken.ensures ∙ c.if-taken-eq-MOST_OF_A_RUN.true) reads)
 
 pub returns-in-Ok-2-clause-answers : goal.returns-in-Ok-2-clause-answers
 returns-in-Ok-2-clause-answers g c = λ s m given reads.

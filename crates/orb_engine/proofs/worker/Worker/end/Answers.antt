@@ -1,8 +1,8 @@
-use Rattle.std.proofs.Common.{◌++◌, ap, ◌∙◌}
+use Rattle.std.proofs.Common.{◌++◌, length, ap, ◌∙◌, arith}
 use Rattle.orb_io.proofs.GivesLemmas.{Gives-of, Delivers-fault, Delivers-as}
 use Rattle.body_filter.specs.Responses.{output_so_far, whole_output}
 use Rattle.orb_engine.specs.Outputs.{written_so_far, written_whole}
-use Rattle.orb_engine.proofs.WorkLemmas.{for-filter, for-explain, reads-filter, reads-explain, so_far-filter, so_far-explain, whole-filter, line-written}
+use Rattle.orb_engine.proofs.WorkLemmas.{for-filter, for-explain, reads-filter, reads-explain, so_far-filter, so_far-explain, whole-filter, whole-most, line-written}
 use Rattle.orb_engine.proofs.worker.Worker.end.Goals as goal
 
 pub returns-in-Filters-clause-delivers : goal.returns-in-Filters-clause-delivers
@@ -19,7 +19,7 @@ returns-in-Ok-clause-delivers g c = λ s x m works size.
     let verdict = c.finish-verdict.ensures.verdict x.judged m reads in
     let line = c.as_slice.result.now in
     let owed = line-written c.args.number c.args.size s x m c.finish-verdict.result line it verdict size
-    (c.as_slice.ensures.value ∙ c.line.ensures) in
+    (c.as_slice.ensures.value ∙ c.line.ensures.line) in
     Gives-of _ _ (written_so_far s.job x m) line _ c.in-Ok.ensures.bytes
     (ap (λ t. t ++ line) (so_far-explain s.job x m it) ∙ owed, verdict)
 
@@ -30,6 +30,26 @@ returns-in-Err-clause-delivers g c = λ s x m works size.
     let verdict = c.finish-verdict.ensures.verdict x.judged m reads in
     let line = c.as_slice.result.now in
     let owed = line-written c.args.number c.args.size s x m c.finish-verdict.result line it verdict size
-    (c.as_slice.ensures.value ∙ c.line.ensures) in
+    (c.as_slice.ensures.value ∙ c.line.ensures.line) in
     Delivers-fault _ _ (written_so_far s.job x m) line _ c.in-Err.ensures.bytes
     (ap (λ t. t ++ line) (so_far-explain s.job x m it) ∙ owed)
+
+pub returns-in-Filters-clause-short : goal.returns-in-Filters-clause-short
+returns-in-Filters-clause-short g c = λ s x m works size.
+    whole-most s.job c.args.number x m (for-filter c.args.self.now _ s c.in-Filters.is works.is_for).0
+
+pub returns-in-Ok-clause-short : goal.returns-in-Ok-clause-short
+returns-in-Ok-clause-short g c = λ s x m works size.
+    let it = for-explain c.args.self.now _ s c.in-Explains.is works.is_for in
+    let reads = reads-explain c.args.self.now _ x m c.in-Explains.is works.reads in
+    let verdict = c.finish-verdict.ensures.verdict x.judged m reads in
+    let owed = line-written c.args.number c.args.size s x m c.finish-verdict.result _ it verdict size c.line.ensures.line in
+    omega (arith, ap length owed, c.line.ensures.short)
+
+pub returns-in-Err-clause-short : goal.returns-in-Err-clause-short
+returns-in-Err-clause-short g c = λ s x m works size.
+    let it = for-explain c.args.self.now _ s c.in-Explains.is works.is_for in
+    let reads = reads-explain c.args.self.now _ x m c.in-Explains.is works.reads in
+    let verdict = c.finish-verdict.ensures.verdict x.judged m reads in
+    let owed = line-written c.args.number c.args.size s x m c.finish-verdict.result _ it verdict size c.line.ensures.line in
+    omega (arith, ap length owed, c.line.ensures.short)

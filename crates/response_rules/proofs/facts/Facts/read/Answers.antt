@@ -10,5 +10,5 @@ returns-clause-facts c = λ essence states.
     let same = groups ∙ ap groups_of (one_essence (pairs_in c.args.fields.now) read essence read_states states) in
     record {
       states = states;
-      are = rw (c.nosniff.ensures.value, c.coded.ensures.value, c.is_from_first.ensures.value, same) refl;
+      are = rw (c.nosniff.ensures.value, c.coded.ensures.value, c.is_first.ensures, c.length_in.ensures, c.stated_range-range.ensures.value, same) refl;
     }

@@ -1,8 +1,8 @@
 use Rattle.std.proofs.Common.{◌≤◌, length, ap, ◌∙◌, arith, append_assoc, length-append}
-use Rattle.trial.specs.Texts.{head_text}
+use Rattle.http_exchange.specs.Messages.{head_text}
 use Rattle.trial.specs.Trials.{kind_of, size_of, id_of, request_line, request_of, status_line, fields_of, body_of, sent_of, exchange_text}
 use Rattle.trial.proofs.ExchangeLemmas.{body_some, body_length, jpeg_length, response_fits}
-use Rattle.trial.proofs.exchanges.write_exchange.Goals as goal
+use Rattle.trial.proofs.numbered.write_exchange.Goals as goal
 
 pub append_response-requires-clause-some : goal.append_response-requires-clause-some
 append_response-requires-clause-some c =

@@ -4,7 +4,7 @@ use Rattle.media_state.specs.Table.{States, admits, IsRefusedId}
 use Rattle.media_state.specs.declared.states.MediaState.{MediaState}
 use Rattle.media_state.specs.declared.table.Full.{Full}
 use Rattle.http_exchange.specs.declared.request.RequestHead.{RequestHead}
-use Rattle.orb_engine.specs.Heads.{id_of, state_before}
+use Rattle.exchanges.specs.Heads.{id_of, state_before}
 
 -- its id is kept, and this is the state that it finds; or there is no room for the id
 abbrev pub EntersFor : (before after : States) → RequestHead → Result MediaState Full → Type 0

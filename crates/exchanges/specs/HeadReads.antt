@@ -11,19 +11,18 @@ use Rattle.http_exchange.specs.declared.refusals.BadKind.{BadKind}
 use Rattle.http_exchange.specs.declared.frames.BodyFrame.{BodyFrame}
 use Rattle.httparse.specs.Grammar.{status_code, ResponseHead}
 use Rattle.response_rules.specs.Heads.{HasEssence}
-use Rattle.orb_engine.specs.declared.settings.Settings.{Settings}
-use Rattle.orb_engine.specs.declared.engine.states.Asked.{Asked}
+use Rattle.exchanges.specs.declared.room.Context.{Context}
 
 -- the head says this, and these are the facts of its response
-pub record ReadsWell (asked : Asked) (s : Settings) (head : List ℕ) (read : Facts) (frame : BodyFrame) : Type 0 where
+pub record ReadsWell (c : Context) (head : List ℕ) (read : Facts) (frame : BodyFrame) : Type 0 where
   pub tree : ResponseHead
   pub is : IsResponse head tree
-  pub framed : frame_of asked.asks.is_head (status_code tree) (pairs_of tree.fields) ≡ Ok frame
+  pub framed : frame_of c.asks.is_head (status_code tree) (pairs_of tree.fields) ≡ Ok frame
   pub essence : Option (List ℕ × List ℕ)
   pub states : HasEssence (pairs_of tree.fields) essence
   pub facts : AreFactsOf read
-      (case_of s.policy asked.state asked.asks.opaque (status_code tree) (pairs_of tree.fields) s.limit essence)
+      (case_of c.policy c.state c.asks.opaque (status_code tree) (pairs_of tree.fields) c.limit essence)
 
-abbrev pub ReadsResponse : Asked → Settings → List ℕ → Result (Facts × BodyFrame) BadKind → Type 0
-ReadsResponse asked s head (Ok read) = ReadsWell asked s head read.0 read.1
-ReadsResponse asked s head (Err kind) = ReadsResponseHead head asked.asks.is_head (Err kind)
+abbrev pub ReadsResponse : Context → List ℕ → Result (Facts × BodyFrame) BadKind → Type 0
+ReadsResponse c head (Ok read) = ReadsWell c head read.0 read.1
+ReadsResponse c head (Err kind) = ReadsResponseHead head c.asks.is_head (Err kind)

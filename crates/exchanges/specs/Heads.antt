@@ -1,10 +1,10 @@
--- The two heads of an exchange, and what they say.
+-- The two heads of an exchange (RFC 9112 2.1), and what they say.
 use Rattle.std.specs.Prelude.{◌≡◌, ℕ, Bool, true, false, List, Option, None, Ok, if◌then◌else◌}
 use Rattle.httparse.specs.Grammar.{status_code, ResponseHead}
 use Rattle.media_state.specs.Table.{States, kept_state, IsRefusedId}
 use Rattle.media_state.specs.declared.states.MediaState.{MediaState}
 use Rattle.media_state.specs.declared.states.MediaState.TheVariants.{Na}
-use Rattle.response_rules.specs.Heads.{Case, HasEssence}
+use Rattle.response_rules.specs.Heads.{Case, HasEssence, stated_length}
 use Rattle.response_rules.specs.Reads.{case_of}
 use Rattle.body_filter.specs.Responses as filter
 use Rattle.body_filter.specs.Responses.{Response}
@@ -15,7 +15,7 @@ use Rattle.http_exchange.specs.ResponseFields.{frame_of}
 use Rattle.http_exchange.specs.declared.request.RequestHead.{RequestHead}
 use Rattle.http_exchange.specs.declared.frames.BodyFrame.{BodyFrame}
 use Rattle.http_exchange.specs.declared.frames.BodyFrame.TheVariants as frame
-use Rattle.orb_engine.specs.declared.settings.Settings.{Settings}
+use Rattle.response_rules.specs.declared.verdicts.Policy.{Policy}
 use Rattle.http_exchange.specs.HeadTexts.{IsHeadText}
 
 -- a request head, and what it says of the fetch that made it
@@ -73,10 +73,14 @@ pub record AreHeads (table : States) (h : Heads) : Type 0 where
 abbrev pub state_of : States → Heads → MediaState
 state_of table h = state_before table h.request.asks
 
--- what the response is judged by
-abbrev pub judged_by : Settings → States → Heads → Case
-judged_by s table h =
-    case_of s.policy (state_of table h) h.request.asks.opaque h.response.status h.response.fields s.limit
+-- the complete length of the resource that the response is a part of, if it states one
+abbrev pub length_of : Heads → Option ℕ
+length_of h = stated_length h.response.status h.response.fields
+
+-- what the response is judged by: the policy, the limit of bytes that are read for a script, and the rest
+abbrev pub judged_by : Policy → (limit : ℕ) → States → Heads → Case
+judged_by policy limit table h =
+    case_of policy (state_of table h) h.request.asks.opaque h.response.status h.response.fields limit
     h.response.essence
 
 abbrev pub is_chunked : BodyFrame → Bool
@@ -92,5 +96,6 @@ is_to_end frame.Chunked = false
 is_to_end frame.ToEnd = true
 
 -- the response, to be filtered
-abbrev pub response_of : Settings → States → Heads → Response
-response_of s table h = filter.response_of (judged_by s table h) h.response.bytes (is_chunked h.response.frame)
+abbrev pub response_of : Policy → (limit : ℕ) → States → Heads → Response
+response_of policy limit table h =
+    filter.response_of (judged_by policy limit table h) h.response.bytes (is_chunked h.response.frame)

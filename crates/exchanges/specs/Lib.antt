@@ -1,0 +1,3 @@
+pub mod Heads
+pub mod HeadReads
+pub mod Media
