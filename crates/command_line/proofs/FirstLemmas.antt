@@ -16,26 +16,35 @@ use Rattle.command_line.specs.Program.{program_app}
 use Rattle.command_line.specs.Taken.{Text, job_text}
 use Rattle.command_line.specs.Values.{is_end_of_options}
 use Rattle.command_line.proofs.WalkLemmas.{HasNoLong, HasNoShort, held_at, or_else_nil, plain_operand, plain_turn, walk_at}
-use Rattle.command_line.proofs.ProgramLemmas.{job_leaf, operand_leaf, operands_leaf}
+use Rattle.command_line.proofs.ProgramLemmas.{job_leaf, word_leaf, operand_leaf, operands_leaf}
 
 -- the subcommands
 pub data Sub : Type 0 where
   judges : Job → Sub
   tries : Sub
   reads : Sub
+  logs : Sub
+  computes : Sub
   serves : Sub
+  passes : Sub
 
 abbrev pub sub_text : Sub → Text
 sub_text (judges job) = job_text job
 sub_text tries = codes "trial"
 sub_text reads = codes "mime"
+sub_text logs = codes "har"
+sub_text computes = codes "type"
 sub_text serves = codes "serve"
+sub_text passes = codes "proxy"
 
 abbrev pub sub_leaf : Sub → Shape
 sub_leaf (judges job) = job_leaf (job_text job)
 sub_leaf tries = operands_leaf (codes "trial")
 sub_leaf reads = operand_leaf (codes "mime")
+sub_leaf logs = word_leaf (codes "har")
+sub_leaf computes = word_leaf (codes "type")
 sub_leaf serves = operands_leaf (codes "serve")
+sub_leaf passes = operands_leaf (codes "proxy")
 
 abbrev pub built_app : App
 built_app = built program_app
@@ -57,7 +66,10 @@ walk_enters (judges Filter) rest = sym (walk_stopped [] names (walk_from nothing
 walk_enters (judges Explain) rest = sym (walk_stopped [] names (walk_from nothing_held) (codes "explain") [] rest)
 walk_enters tries rest = sym (walk_stopped [] names (walk_from nothing_held) (codes "trial") [] rest)
 walk_enters reads rest = sym (walk_stopped [] names (walk_from nothing_held) (codes "mime") [] rest)
+walk_enters logs rest = sym (walk_stopped [] names (walk_from nothing_held) (codes "har") [] rest)
+walk_enters computes rest = sym (walk_stopped [] names (walk_from nothing_held) (codes "type") [] rest)
 walk_enters serves rest = sym (walk_stopped [] names (walk_from nothing_held) (codes "serve") [] rest)
+walk_enters passes rest = sym (walk_stopped [] names (walk_from nothing_held) (codes "proxy") [] rest)
 
 no_walk_fault : (sub : Sub) (rest : List Text) → walk_fault top names (walk_from nothing_held) (sub_text sub ∷ rest) ≡ []
 unfolding walk_fault walked
@@ -65,7 +77,10 @@ no_walk_fault (judges Filter) rest = stopped_fault top names (walk_from nothing_
 no_walk_fault (judges Explain) rest = stopped_fault top names (walk_from nothing_held) (codes "explain", []) rest
 no_walk_fault tries rest = stopped_fault top names (walk_from nothing_held) (codes "trial", []) rest
 no_walk_fault reads rest = stopped_fault top names (walk_from nothing_held) (codes "mime", []) rest
+no_walk_fault logs rest = stopped_fault top names (walk_from nothing_held) (codes "har", []) rest
+no_walk_fault computes rest = stopped_fault top names (walk_from nothing_held) (codes "type", []) rest
 no_walk_fault serves rest = stopped_fault top names (walk_from nothing_held) (codes "serve", []) rest
+no_walk_fault passes rest = stopped_fault top names (walk_from nothing_held) (codes "proxy", []) rest
 
 -- the fault of the words, by where the walk over the first level ends
 abbrev fault_from : Kinds → Walk → Kinds
@@ -85,7 +100,10 @@ entered_is (judges Filter) rest = refl
 entered_is (judges Explain) rest = refl
 entered_is tries rest = refl
 entered_is reads rest = refl
+entered_is logs rest = refl
+entered_is computes rest = refl
 entered_is serves rest = refl
+entered_is passes rest = refl
 
 -- the fault of a subcommand's words is its own
 pub fault_enters : (sub : Sub) (rest : List Text) → fault_of program_app (sub_text sub ∷ rest) ≡ level_fault (sub_leaf sub) [] nothing_held rest false []
@@ -97,7 +115,10 @@ met_is (judges Filter) rest = refl
 met_is (judges Explain) rest = refl
 met_is tries rest = refl
 met_is reads rest = refl
+met_is logs rest = refl
+met_is computes rest = refl
 met_is serves rest = refl
+met_is passes rest = refl
 
 -- the subcommand that is met, and its rows
 pub sub_enters : (sub : Sub) (rest : List Text) → subcommand_of program_app (sub_text sub ∷ rest) ≡ Some (sub_text sub, rows_after (sub_leaf sub).rules [] rest)
@@ -109,17 +130,21 @@ pub data First (w : Text) : Type 0 where
   is_sub : (sub : Sub) → w ≡ sub_text sub → First w
   is_none : subcommand_met names idle w ≡ None → First w
 
-first_by : (w : Text) (f e t m s : Bool) → bytes_eq (codes "filter") w ≡ f → bytes_eq (codes "explain") w ≡ e → bytes_eq (codes "trial") w ≡ t
-    → bytes_eq (codes "mime") w ≡ m → bytes_eq (codes "serve") w ≡ s → First w
-first_by w true e t m s fs es ts ms ss = is_sub (judges Filter) (sym ((bytes_eq-Decides (codes "filter") w).0 fs))
-first_by w false true t m s fs es ts ms ss = is_sub (judges Explain) (sym ((bytes_eq-Decides (codes "explain") w).0 es))
-first_by w false false true m s fs es ts ms ss = is_sub tries (sym ((bytes_eq-Decides (codes "trial") w).0 ts))
-first_by w false false false true s fs es ts ms ss = is_sub reads (sym ((bytes_eq-Decides (codes "mime") w).0 ms))
-first_by w false false false false true fs es ts ms ss = is_sub serves (sym ((bytes_eq-Decides (codes "serve") w).0 ss))
-first_by w false false false false false fs es ts ms ss = is_none (rw (fs, es, ts, ms, ss) refl)
+first_by : (w : Text) (f e t m h c s p : Bool) → bytes_eq (codes "filter") w ≡ f → bytes_eq (codes "explain") w ≡ e → bytes_eq (codes "trial") w ≡ t
+    → bytes_eq (codes "mime") w ≡ m → bytes_eq (codes "har") w ≡ h → bytes_eq (codes "type") w ≡ c → bytes_eq (codes "serve") w ≡ s
+    → bytes_eq (codes "proxy") w ≡ p → First w
+first_by w true e t m h c s p fs es ts ms hs cs ss ps = is_sub (judges Filter) (sym ((bytes_eq-Decides (codes "filter") w).0 fs))
+first_by w false true t m h c s p fs es ts ms hs cs ss ps = is_sub (judges Explain) (sym ((bytes_eq-Decides (codes "explain") w).0 es))
+first_by w false false true m h c s p fs es ts ms hs cs ss ps = is_sub tries (sym ((bytes_eq-Decides (codes "trial") w).0 ts))
+first_by w false false false true h c s p fs es ts ms hs cs ss ps = is_sub reads (sym ((bytes_eq-Decides (codes "mime") w).0 ms))
+first_by w false false false false true c s p fs es ts ms hs cs ss ps = is_sub logs (sym ((bytes_eq-Decides (codes "har") w).0 hs))
+first_by w false false false false false true s p fs es ts ms hs cs ss ps = is_sub computes (sym ((bytes_eq-Decides (codes "type") w).0 cs))
+first_by w false false false false false false true p fs es ts ms hs cs ss ps = is_sub serves (sym ((bytes_eq-Decides (codes "serve") w).0 ss))
+first_by w false false false false false false false true fs es ts ms hs cs ss ps = is_sub passes (sym ((bytes_eq-Decides (codes "proxy") w).0 ps))
+first_by w false false false false false false false false fs es ts ms hs cs ss ps = is_none (rw (fs, es, ts, ms, hs, cs, ss, ps) refl)
 
 pub first_view : (w : Text) → First w
-first_view w = first_by w _ _ _ _ _ refl refl refl refl refl
+first_view w = first_by w _ _ _ _ _ _ _ _ refl refl refl refl refl refl refl refl
 
 top_no_short : HasNoShort top.rules
 top_no_short x = refl

@@ -5,6 +5,7 @@ pub mod OptionLemmas
 pub mod JobLemmas
 pub mod SpellLemmas
 pub mod OperandLemmas
+pub mod ParseLemmas
 pub mod FirstLemmas
 pub mod ValueLemmas
 pub mod TakenLemmas

@@ -1,4 +1,4 @@
--- What clap reads of the words of a subcommand with one operand, or with two.
+-- What clap reads of the words of a subcommand with no operand, with one, or with two.
 use Rattle.std.proofs.Common.{◌≡◌, ℕ, false, List, [], ◌∷◌, Option, Some, None, refl, sym, ◌∙◌, subst, codes}
 use Rattle.std.specs.List.{list_any}
 use Rattle.clap.specs.Walk.{Row, Walk, nothing_held, walk_from, walked}
@@ -11,7 +11,7 @@ use Rattle.command_line.specs.Taken.{Text}
 use Rattle.command_line.specs.Values.{is_end_of_options}
 use Rattle.command_line.proofs.WordLemmas.{IsWord, HasNoEnd, neither}
 use Rattle.command_line.proofs.WalkLemmas.{Ends, Goes, HasNoLong, HasNoShort, IsPlain, ends_more, goes, held_at, no_fault, plain_of, plain_operand, plain_turn, plain_walked, row_for, walk_at}
-use Rattle.command_line.proofs.ProgramLemmas.{operand_leaf, operands_leaf}
+use Rattle.command_line.proofs.ProgramLemmas.{word_leaf, operand_leaf, operands_leaf}
 
 abbrev pub first_row : Text → Row
 first_row value = row_for (with_index 1 (filled (operand_rule (codes "first")))) value
@@ -57,6 +57,28 @@ module _ (s : Shape) (has_no_short : HasNoShort s.rules) (has_no_long : HasNoLon
   pub refused : (IsPlain s idle position word (held_at rows pending)
       → turn_fault s [] (walk_at idle position (held_at rows pending)) word ≡ kind.UnknownArgument ∷ []) → ⊥
   refused is = let bad = sym (is plain_step) ∙ step.turn in absurd (cc)
+
+-- ---- no operand
+
+module _ (name : Text) where
+  word_no_short : HasNoShort (word_leaf name).rules
+  word_no_short x = refl
+
+  word_no_long : HasNoLong (word_leaf name).rules
+  word_no_long x = refl
+
+  stray_word : (a : Text) → IsPlain (word_leaf name) idle 1 a (held_at [] None)
+      → turn_fault (word_leaf name) [] start a ≡ kind.UnknownArgument ∷ []
+  stray_word a p = plain_turn (word_leaf name) idle 1 a (held_at [] None) p
+
+  pub no_words : (words : List Text) (leaves : List Row) → HasNoEnd words → Ends (word_leaf name) start words leaves → words ≡ []
+  no_words [] leaves no_end e = refl
+  no_words (a ∷ rest) leaves no_end e =
+      absurd (refused (word_leaf name) word_no_short word_no_long 1 [] None a rest leaves
+      (neither (is_end_of_options a) (list_any is_end_of_options rest) no_end).0 e (stray_word a))
+
+  pub word_ends : Ends (word_leaf name) start [] []
+  word_ends = record { fault = no_fault (word_leaf name) start; settles = refl; leaves = refl }
 
 -- ---- one operand
 

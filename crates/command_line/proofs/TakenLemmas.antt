@@ -10,16 +10,16 @@ use Rattle.command_line.specs.declared.asked.Job.TheVariants.{Filter, Explain}
 use Rattle.command_line.specs.declared.asked.Policy.{Policy}
 use Rattle.command_line.specs.declared.numbers.TheConstants.{MOST_COUNT, MOST_SEED}
 use Rattle.command_line.specs.Program.{program_app}
-use Rattle.command_line.specs.Taken.{Asked, Judge, Trial, Mime, Serve, Given, IsTaken, Name, Spelling, Text, apart, if_named, is_operand, job_text, joined, limit, name_text, options_words, policy, spelled, values_of}
-use Rattle.command_line.specs.Values.{asked_as, asked_by, is_end_of_options, judge_of, limit_of, mime_of, number_in, of_both, operand_of, policy_of, serve_of, trial_of}
+use Rattle.command_line.specs.Taken.{Asked, Judge, Trial, Mime, Har, ComputedType, Serve, Proxy, Given, IsListening, IsTaken, Name, Spelling, Text, apart, if_named, is_operand, job_text, joined, limit, name_text, options_words, policy, spelled, values_of}
+use Rattle.command_line.specs.Values.{asked_as, asked_by, is_end_of_options, judge_of, limit_of, mime_of, number_in, of_both, operand_of, policy_of, listening_of, trial_of}
 use Rattle.command_line.proofs.WordLemmas.{HasNoEnd, neither, operand_is}
 use Rattle.command_line.proofs.WalkLemmas.{Ends, IsQuiet, level_in, level_out}
 use Rattle.command_line.proofs.ProgramLemmas.{job_leaf}
 use Rattle.command_line.proofs.OptionLemmas.{rows_of}
 use Rattle.command_line.proofs.JobLemmas.{claims}
 use Rattle.command_line.proofs.SpellLemmas.{IsSaid, Said, first_given, spell}
-use Rattle.command_line.proofs.OperandLemmas.{Operand, Operands, first_row, no_word, none, one, one_word, operand_ends, operand_words, operands_end, operands_words, second_row, start, two}
-use Rattle.command_line.proofs.FirstLemmas.{First, Sub, fault_enters, first_refused, first_view, is_none, is_sub, judges, reads, serves, sub_enters, sub_leaf, sub_text, tries}
+use Rattle.command_line.proofs.OperandLemmas.{Operand, Operands, first_row, no_word, no_words, none, one, one_word, operand_ends, operand_words, operands_end, operands_words, second_row, start, two, word_ends}
+use Rattle.command_line.proofs.FirstLemmas.{First, Sub, computes, fault_enters, first_refused, first_view, is_none, is_sub, judges, logs, passes, reads, serves, sub_enters, sub_leaf, sub_text, tries}
 use Rattle.command_line.proofs.ValueLemmas.{both_are, first_is, limit_is, limit_reads, limit_said, number_is, number_operand, number_reads, operand_reads, operand_text, policy_is, policy_reads, policy_said}
 
 -- ---- what the words of a subcommand ask for
@@ -57,20 +57,36 @@ trial_taken rest leaves asked (two a b is rows) asks =
       writes_count = number_is 1 MOST_COUNT b both.y both.has_second;
     })
 
-serve_taken : (rest : List Text) (leaves : List Row) (asked : Asked) → Operands rest leaves → serve_of leaves ≡ Some asked → IsTaken (codes "serve" ∷ rest) asked
-serve_taken rest leaves asked (none rows) asks =
-    let bad = subst (λ (r : List Row). serve_of r ≡ Some asked) rows asks in absurd (cc)
-serve_taken rest leaves asked (one a rows) asks =
-    absurd (none_both Serve (operand_of a) asked (subst (λ (r : List Row). serve_of r ≡ Some asked) rows asks))
-serve_taken rest leaves asked (two a b is rows) asks =
-    let both = both_are Serve (operand_of a) (number_in 1 MOST_COUNT b) asked (subst (λ (r : List Row). serve_of r ≡ Some asked) rows asks) in
-    let operand = operand_text a both.x both.has_first in
-    subst (λ (k : Asked). IsTaken (codes "serve" ∷ rest) k) both.are (record {
-      count_word = b;
-      are = ap (λ t. codes "serve" ∷ t) (is ∙ ap (λ t. t ∷ b ∷ []) operand.are);
-      operand = subst (λ (t : Text). IsTrue (is_operand t)) operand.are operand.operand;
-      writes_count = number_is 1 MOST_COUNT b both.y both.has_second;
-    })
+-- an address and a count
+module _ (ask : Text → ℕ → Asked) (name : Text)
+    (takes : (words : List Text) (address : Text) (count : ℕ) → IsListening name words address count → IsTaken words (ask address count)) where
+  listening_taken : (rest : List Text) (leaves : List Row) (asked : Asked) → Operands rest leaves → listening_of ask leaves ≡ Some asked → IsTaken (name ∷ rest) asked
+  listening_taken rest leaves asked (none rows) asks =
+      let bad = subst (λ (r : List Row). listening_of ask r ≡ Some asked) rows asks in absurd (cc)
+  listening_taken rest leaves asked (one a rows) asks =
+      absurd (none_both ask (operand_of a) asked (subst (λ (r : List Row). listening_of ask r ≡ Some asked) rows asks))
+  listening_taken rest leaves asked (two a b is rows) asks =
+      let both = both_are ask (operand_of a) (number_in 1 MOST_COUNT b) asked (subst (λ (r : List Row). listening_of ask r ≡ Some asked) rows asks) in
+      let operand = operand_text a both.x both.has_first in
+      subst (λ (k : Asked). IsTaken (name ∷ rest) k) both.are (takes (name ∷ rest) both.x both.y (record {
+        count_word = b;
+        are = ap (λ t. name ∷ t) (is ∙ ap (λ t. t ∷ b ∷ []) operand.are);
+        operand = subst (λ (t : Text). IsTrue (is_operand t)) operand.are operand.operand;
+        writes_count = number_is 1 MOST_COUNT b both.y both.has_second;
+      }))
+
+serve_taken : (rest : List Text) (leaves : List Row) (asked : Asked) → Operands rest leaves → listening_of Serve leaves ≡ Some asked → IsTaken (codes "serve" ∷ rest) asked
+serve_taken = listening_taken Serve (codes "serve") (λ words address count is. is)
+
+proxy_taken : (rest : List Text) (leaves : List Row) (asked : Asked) → Operands rest leaves → listening_of Proxy leaves ≡ Some asked → IsTaken (codes "proxy" ∷ rest) asked
+proxy_taken = listening_taken Proxy (codes "proxy") (λ words address count is. is)
+
+-- a word and nothing after it
+word_taken : (name : Text) (rest : List Text) (ask asked : Asked) → IsTaken (name ∷ []) ask → rest ≡ [] → Some ask ≡ Some asked → IsTaken (name ∷ rest) asked
+word_taken name rest ask asked is empty asks =
+    let same : ask ≡ asked = cc in
+    let words = ap (λ t. name ∷ t) (sym empty) in
+    subst (λ (t : List Text). IsTaken t asked) words (subst (λ (k : Asked). IsTaken (name ∷ []) k) same is)
 
 mime_by : (a : Text) (rest : List Text) (asked : Asked) (o : Option Text) → rest ≡ a ∷ [] → operand_of a ≡ o → option_map Mime o ≡ Some asked
     → IsTaken (codes "mime" ∷ rest) asked
@@ -95,14 +111,20 @@ sub_taken (judges Filter) rest leaves asked no_end e asks = judge_taken Filter r
 sub_taken (judges Explain) rest leaves asked no_end e asks = judge_taken Explain rest leaves asked no_end e asks
 sub_taken tries rest leaves asked no_end e asks = trial_taken rest leaves asked (operands_words (codes "trial") rest leaves no_end e) asks
 sub_taken reads rest leaves asked no_end e asks = mime_taken rest leaves asked (operand_words (codes "mime") rest leaves no_end e) asks
+sub_taken logs rest leaves asked no_end e asks = word_taken (codes "har") rest Har asked refl (no_words (codes "har") rest leaves no_end e) asks
+sub_taken computes rest leaves asked no_end e asks = word_taken (codes "type") rest ComputedType asked refl (no_words (codes "type") rest leaves no_end e) asks
 sub_taken serves rest leaves asked no_end e asks = serve_taken rest leaves asked (operands_words (codes "serve") rest leaves no_end e) asks
+sub_taken passes rest leaves asked no_end e asks = proxy_taken rest leaves asked (operands_words (codes "proxy") rest leaves no_end e) asks
 
 quiet : (sub : Sub) → IsQuiet (sub_leaf sub)
 quiet (judges Filter) = record { defaults = refl; check = λ rows. refl }
 quiet (judges Explain) = record { defaults = refl; check = λ rows. refl }
 quiet tries = record { defaults = refl; check = λ rows. refl }
 quiet reads = record { defaults = refl; check = λ rows. refl }
+quiet logs = record { defaults = refl; check = λ rows. refl }
+quiet computes = record { defaults = refl; check = λ rows. refl }
 quiet serves = record { defaults = refl; check = λ rows. refl }
+quiet passes = record { defaults = refl; check = λ rows. refl }
 
 from_first : (w : Text) (rest : List Text) (asked : Asked) → (is_end_of_options w ≡ false) × HasNoEnd rest → fault_of program_app (w ∷ rest) ≡ []
     → asked_by (subcommand_of program_app (w ∷ rest)) ≡ Some asked → First w → IsTaken (w ∷ rest) asked
@@ -138,7 +160,10 @@ sub_no_end (judges Filter) = refl
 sub_no_end (judges Explain) = refl
 sub_no_end tries = refl
 sub_no_end reads = refl
+sub_no_end logs = refl
+sub_no_end computes = refl
 sub_no_end serves = refl
+sub_no_end passes = refl
 
 sub_answers : (sub : Sub) (words rest : List Text) (leaves : List Row) (asked : Asked) → words ≡ sub_text sub ∷ rest → HasNoEnd rest → Ends (sub_leaf sub) start rest leaves
     → asked_as (sub_text sub) leaves ≡ Some asked → Answers words asked
@@ -203,12 +228,21 @@ answers words (Mime text) is =
     (rw (a.no_end) refl)
     (operand_ends (codes "mime") text a)
     (rw (operand_reads text is.operand) refl)
+answers words Har is = sub_answers logs words [] [] Har is refl (word_ends (codes "har")) refl
+answers words ComputedType is = sub_answers computes words [] [] ComputedType is refl (word_ends (codes "type")) refl
 answers words (Serve address count) is =
     let a = operand_is address is.operand in
     let b = operand_is is.count_word (number_operand is.count_word count is.writes_count.written) in
     sub_answers serves words (address ∷ is.count_word ∷ []) (first_row address ∷ second_row is.count_word ∷ []) (Serve address count) is.are
     (rw (a.no_end, b.no_end) refl)
     (operands_end (codes "serve") address is.count_word a b)
+    (rw (operand_reads address is.operand, number_reads 1 MOST_COUNT is.count_word count is.writes_count) refl)
+answers words (Proxy address count) is =
+    let a = operand_is address is.operand in
+    let b = operand_is is.count_word (number_operand is.count_word count is.writes_count.written) in
+    sub_answers passes words (address ∷ is.count_word ∷ []) (first_row address ∷ second_row is.count_word ∷ []) (Proxy address count) is.are
+    (rw (a.no_end, b.no_end) refl)
+    (operands_end (codes "proxy") address is.count_word a b)
     (rw (operand_reads address is.operand, number_reads 1 MOST_COUNT is.count_word count is.writes_count) refl)
 
 -- words ask for one thing

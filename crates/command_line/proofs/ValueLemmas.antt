@@ -13,7 +13,7 @@ use Rattle.clap.specs.Walk.{Row, first_of}
 use Rattle.command_line.specs.declared.asked.Policy.{Policy}
 use Rattle.command_line.specs.declared.asked.Policy.TheVariants.{Orb, Corb}
 use Rattle.command_line.specs.declared.numbers.TheConstants.{LEAST_LIMIT, MOST_LIMIT}
-use Rattle.command_line.specs.Taken.{Asked, Judge, Trial, Mime, Serve, Given, IsInRange, IsLimit, IsNumber, IsPolicy, IsTaken, Name, Text, if_named, is_operand, limit, name_text, policy, policy_text, values_of}
+use Rattle.command_line.specs.Taken.{Asked, Judge, Trial, Mime, Har, ComputedType, Serve, Proxy, Given, IsInRange, IsLimit, IsNumber, IsPolicy, IsTaken, Name, Text, if_named, is_operand, limit, name_text, policy, policy_text, values_of}
 use Rattle.command_line.specs.Values.{if_in, limit_of, number_in, of_both, operand_of, policy_of}
 use Rattle.command_line.proofs.WalkLemmas.{row_for}
 use Rattle.command_line.proofs.OptionLemmas.{rows_of, rule_of}
@@ -146,4 +146,7 @@ pub in_ranges : (words : List Text) (asked : Asked) → IsTaken words asked → 
 in_ranges words (Judge job p n) is = limit_in_range (values_of limit is.options) n is.says_limit
 in_ranges words (Trial seed count) is = (is.writes_seed.at_most, is.writes_count.at_least, is.writes_count.at_most)
 in_ranges words (Mime text) is = tt
+in_ranges words Har is = tt
+in_ranges words ComputedType is = tt
 in_ranges words (Serve address count) is = (is.writes_count.at_least, is.writes_count.at_most)
+in_ranges words (Proxy address count) is = (is.writes_count.at_least, is.writes_count.at_most)

@@ -13,8 +13,12 @@ operand_rule id = record (new_rule id) { action = Some Set }
 abbrev pub job_app : Text → App
 job_app name = with_rule (with_rule (new_app name) (option_rule (codes "policy"))) (option_rule (codes "limit"))
 
+-- a word and nothing after it
+abbrev pub word_app : Text → App
+word_app name = new_app name
+
 abbrev pub operand_app : Text → App
-operand_app name = with_rule (new_app name) (operand_rule (codes "first"))
+operand_app name = with_rule (word_app name) (operand_rule (codes "first"))
 
 abbrev pub operands_app : Text → App
 operands_app name = with_rule (operand_app name) (operand_rule (codes "second"))
@@ -30,6 +34,9 @@ bare_app = on_top (λ s. record s {
 
 abbrev pub program_app : App
 program_app =
-    with_subcommand (with_subcommand (with_subcommand (with_subcommand (with_subcommand bare_app
+    with_subcommand (with_subcommand (with_subcommand (with_subcommand (with_subcommand (with_subcommand (with_subcommand
+    (with_subcommand bare_app
     (job_app (codes "filter")).top) (job_app (codes "explain")).top)
-    (operands_app (codes "trial")).top) (operand_app (codes "mime")).top) (operands_app (codes "serve")).top
+    (operands_app (codes "trial")).top) (operand_app (codes "mime")).top)
+    (word_app (codes "har")).top) (word_app (codes "type")).top)
+    (operands_app (codes "serve")).top) (operands_app (codes "proxy")).top

@@ -14,19 +14,26 @@ use Rattle.command_line.specs.declared.numbers.TheConstants.{LEAST_LIMIT, MOST_L
 abbrev pub Text : Type 0
 Text = List ℕ
 
--- what words ask for: a recording is judged, a made-up one is, a MIME type is read, connections are served
+-- what words ask for: a recording is judged, a made-up one is, a MIME type is read, a HAR log is judged, the type of a
+-- response is computed, connections are served, or passed on
 pub data Asked : Type 0 where
   Judge : (job : Job) (policy : Policy) (limit : ℕ) → Asked
   Trial : (seed count : ℕ) → Asked
   Mime : Text → Asked
+  Har : Asked
+  ComputedType : Asked
   Serve : (address : Text) (count : ℕ) → Asked
+  Proxy : (address : Text) (count : ℕ) → Asked
 
 -- the same, as a command says it
 abbrev pub asked_of : Command → Asked
 asked_of (commands.Judge job policy limit) = Judge job policy limit
 asked_of (commands.Trial seed count) = Trial seed count
 asked_of (commands.Mime text) = Mime text.now
+asked_of commands.Har = Har
+asked_of commands.Type = ComputedType
 asked_of (commands.Serve address count) = Serve address.now count
+asked_of (commands.Proxy address count) = Proxy address.now count
 
 -- the options of a job
 pub data Name : Type 0 where
@@ -121,10 +128,10 @@ pub record IsMime (words : List Text) (text : Text) : Type 0 where
   pub are : words ≡ codes "mime" ∷ text ∷ []
   pub operand : IsTrue (is_operand text)
 
--- `serve ADDRESS COUNT`
-pub record IsServe (words : List Text) (address : Text) (count : ℕ) : Type 0 where
+-- `NAME ADDRESS COUNT`
+pub record IsListening (name : Text) (words : List Text) (address : Text) (count : ℕ) : Type 0 where
   pub count_word : Text
-  pub are : words ≡ codes "serve" ∷ address ∷ count_word ∷ []
+  pub are : words ≡ name ∷ address ∷ count_word ∷ []
   pub operand : IsTrue (is_operand address)
   pub writes_count : IsNumber 1 MOST_COUNT count_word count
 
@@ -133,11 +140,17 @@ abbrev pub IsTaken : List Text → Asked → Type 0
 IsTaken words (Judge job p n) = IsJudge words job p n
 IsTaken words (Trial seed count) = IsTrial words seed count
 IsTaken words (Mime text) = IsMime words text
-IsTaken words (Serve address count) = IsServe words address count
+IsTaken words Har = words ≡ codes "har" ∷ []
+IsTaken words ComputedType = words ≡ codes "type" ∷ []
+IsTaken words (Serve address count) = IsListening (codes "serve") words address count
+IsTaken words (Proxy address count) = IsListening (codes "proxy") words address count
 
 -- the numbers lie in their ranges
 abbrev pub IsInRange : Asked → Type 0
 IsInRange (Judge job p n) = (LEAST_LIMIT ≤ n) × (n ≤ MOST_LIMIT)
 IsInRange (Trial seed count) = (seed ≤ MOST_SEED) × (1 ≤ count) × (count ≤ MOST_COUNT)
 IsInRange (Mime text) = ⊤
+IsInRange Har = ⊤
+IsInRange ComputedType = ⊤
 IsInRange (Serve address count) = (1 ≤ count) × (count ≤ MOST_COUNT)
+IsInRange (Proxy address count) = (1 ≤ count) × (count ≤ MOST_COUNT)

@@ -7,7 +7,7 @@ use Rattle.command_line.specs.declared.asked.Job.TheVariants.{Filter, Explain}
 use Rattle.command_line.specs.declared.asked.Policy.{Policy}
 use Rattle.command_line.specs.declared.asked.Policy.TheVariants.{Orb, Corb}
 use Rattle.command_line.specs.declared.numbers.TheConstants.{LEAST_LIMIT, MOST_LIMIT, DEFAULT_LIMIT, MOST_SEED, MOST_COUNT}
-use Rattle.command_line.specs.Taken.{Text, Asked, Judge, Trial, Mime, Serve, is_operand}
+use Rattle.command_line.specs.Taken.{Text, Asked, Judge, Trial, Mime, Har, ComputedType, Serve, Proxy, is_operand}
 
 abbrev pub if_in : (least most n : ℕ) → Option ℕ
 if_in least most n = if nat_le least n && nat_le n most then Some n else None
@@ -50,8 +50,9 @@ trial_of rows = of_both Trial (option_and_then (number_in 0 MOST_SEED) (first_op
 abbrev pub mime_of : List Row → Option Asked
 mime_of rows = option_map Mime (option_and_then operand_of (first_operand rows))
 
-abbrev pub serve_of : List Row → Option Asked
-serve_of rows = of_both Serve (option_and_then operand_of (first_operand rows)) (count_in rows)
+-- an address and a count
+abbrev pub listening_of : (Text → ℕ → Asked) → List Row → Option Asked
+listening_of ask rows = of_both ask (option_and_then operand_of (first_operand rows)) (count_in rows)
 
 -- the subcommand that was met, and its values
 abbrev pub asked_as : Text → List Row → Option Asked
@@ -60,7 +61,10 @@ asked_as name rows =
     else if bytes_eq name (codes "explain") then judge_of Explain rows
     else if bytes_eq name (codes "trial") then trial_of rows
     else if bytes_eq name (codes "mime") then mime_of rows
-    else if bytes_eq name (codes "serve") then serve_of rows
+    else if bytes_eq name (codes "har") then Some Har
+    else if bytes_eq name (codes "type") then Some ComputedType
+    else if bytes_eq name (codes "serve") then listening_of Serve rows
+    else if bytes_eq name (codes "proxy") then listening_of Proxy rows
     else None
 
 abbrev pub asked_by : Option (Text × List Row) → Option Asked

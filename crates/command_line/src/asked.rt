@@ -39,8 +39,19 @@ pub enum Command<'w> {
     },
     /// `mime`: the MIME type of the text is read.
     Mime(&'w [u8]),
+    /// `har`: a HAR log is judged.
+    Har,
+    /// `type`: the MIME type of a response is computed.
+    Type,
     /// `serve`: connections are accepted one after the other.
     Serve {
+        /// Where the program listens, as it was written.
+        address: &'w [u8],
+        /// How many connections.
+        count: u64,
+    },
+    /// `proxy`: connections are accepted one after the other, and each request is passed on.
+    Proxy {
         /// Where the program listens, as it was written.
         address: &'w [u8],
         /// How many connections.

@@ -7,7 +7,10 @@
 //! | `filter` or `explain`, then options in any order, each at most once: `--policy orb` or `--policy corb`, and `--limit` with a number of bytes from 1,024 to 268,435,456. The value may stand in the same word, as in `--limit=1024`. Without them the policy is `orb` and the limit 8,388,608 | [`Command::Judge`] |
 //! | `trial SEED COUNT`, with a seed of at most 10^18 and a count from 1 to 1,000,000 | [`Command::Trial`] |
 //! | `mime TEXT`, where the text doesn't begin with `-` | [`Command::Mime`] |
+//! | `har` | [`Command::Har`] |
+//! | `type` | [`Command::Type`] |
 //! | `serve ADDRESS COUNT`, where the address doesn't begin with `-`, and with a count from 1 to 1,000,000 | [`Command::Serve`] |
+//! | `proxy ADDRESS COUNT`, with the same | [`Command::Proxy`] |
 //!
 //! Numbers are 1 to 19 ASCII digits. All other words are refused as [`Refused::Usage`], and no others are: an option
 //! that is given twice or without its value, short names, `--` as a word, and words that ask for help or a version.

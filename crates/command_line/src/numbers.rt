@@ -16,7 +16,7 @@ pub const DEFAULT_LIMIT: u64 = 8_388_608;
 /// The greatest seed of `trial`.
 pub const MOST_SEED: u64 = 1_000_000_000_000_000_000;
 
-/// The greatest count of `trial` and of `serve`; the least is 1.
+/// The greatest count of `trial`, `serve` and `proxy`; the least is 1.
 pub const MOST_COUNT: u64 = 1_000_000;
 
 /// The number that 1 to 19 ASCII digits write, where it lies from `least` to `most`.
@@ -31,7 +31,7 @@ pub(crate) fn read_number(text: &str, least: u64, most: u64) -> Option<u64>
     }
 }
 
-/// The count that a word of `trial` or `serve` writes.
+/// The count that a word of `trial`, `serve` or `proxy` writes.
 pub(crate) fn read_count(text: &str) -> Option<u64>
     ensures { result ≡ number_in 1 MOST_COUNT text.now }
 {

@@ -4,8 +4,8 @@ ghost use Rattle.std.specs.List.{list_any};
 ghost use Rattle.clap.specs.Words.{subcommand_of, subcommand_rows_of, fault_of, found_of, rows_of};
 ghost use Rattle.clap.specs.Walk.{first_of};
 ghost use Rattle.command_line.specs.Program.{program_app};
-ghost use Rattle.command_line.specs.Taken.{Asked, IsTaken, IsInRange, asked_of};
-ghost use Rattle.command_line.specs.Values.{asked_by, judge_of, trial_of, mime_of, serve_of, operand_of, is_end_of_options};
+ghost use Rattle.command_line.specs.Taken.{Asked, Serve, Proxy, IsTaken, IsInRange, asked_of};
+ghost use Rattle.command_line.specs.Values.{asked_by, judge_of, trial_of, mime_of, listening_of, operand_of, is_end_of_options};
 
 use crate::asked::{Command, Job, Refused};
 use crate::numbers::{MOST_SEED, read_count, read_number};
@@ -82,7 +82,10 @@ fn read_command<'w>(matches: &ArgMatches<'w>) -> Option<Command<'w>>
         "explain" => read_judge(Job::Explain, given),
         "trial" => read_trial(given),
         "mime" => read_mime(given),
+        "har" => Some(Command::Har),
+        "type" => Some(Command::Type),
         "serve" => read_serve(given),
+        "proxy" => read_proxy(given),
         _ => None,
     }
 }
@@ -111,11 +114,19 @@ fn read_mime<'w>(given: &ArgMatches<'w>) -> Option<Command<'w>>
 }
 
 fn read_serve<'w>(given: &ArgMatches<'w>) -> Option<Command<'w>>
-    ensures { option_map asked_of result ≡ serve_of (rows_of (found_of given.now)) }
+    ensures { option_map asked_of result ≡ listening_of Serve (rows_of (found_of given.now)) }
 {
     let address = read_operand(value_of(given, "first")?)?;
     let count = read_count(value_of(given, "second")?)?;
     Some(Command::Serve { address, count })
+}
+
+fn read_proxy<'w>(given: &ArgMatches<'w>) -> Option<Command<'w>>
+    ensures { option_map asked_of result ≡ listening_of Proxy (rows_of (found_of given.now)) }
+{
+    let address = read_operand(value_of(given, "first")?)?;
+    let count = read_count(value_of(given, "second")?)?;
+    Some(Command::Proxy { address, count })
 }
 
 /// The value that clap found for the argument.

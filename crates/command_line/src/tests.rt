@@ -12,11 +12,14 @@ enum Owed {
     Judge(Job, Policy, u64),
     Trial(u64, u64),
     Mime(&'static str),
+    Har,
+    Type,
     Serve(&'static str, u64),
+    Proxy(&'static str, u64),
     Usage,
 }
 
-use Owed::{Judge, Mime, Serve, Trial, Usage};
+use Owed::{Har, Judge, Mime, Proxy, Serve, Trial, Type, Usage};
 
 /// Words with spaces between them, and what is owed; `_` stands for the word without text.
 const ROWS: &[(&str, Owed)] = &[
@@ -62,6 +65,10 @@ const ROWS: &[(&str, Owed)] = &[
     ("serve 127.0.0.1:8080 1", Serve("127.0.0.1:8080", 1)),
     ("serve localhost:0 1000000", Serve("localhost:0", 1_000_000)),
     ("serve _ 3", Serve("", 3)),
+    ("har", Har),
+    ("type", Type),
+    ("proxy 127.0.0.1:8080 1", Proxy("127.0.0.1:8080", 1)),
+    ("proxy _ 1000000", Proxy("", 1_000_000)),
     ("", Usage),
     ("_", Usage),
     ("_ filter", Usage),
@@ -121,9 +128,24 @@ const ROWS: &[(&str, Owed)] = &[
     ("serve localhost:0 +1", Usage),
     ("serve localhost:0 1 1", Usage),
     ("serve -x 1", Usage),
-    ("type", Usage),
-    ("har", Usage),
+    ("har _", Usage),
+    ("har a", Usage),
+    ("har -", Usage),
+    ("har --", Usage),
+    ("har --policy orb", Usage),
+    ("har har", Usage),
+    ("type _", Usage),
+    ("type a", Usage),
+    ("type -x", Usage),
+    ("type har", Usage),
     ("proxy", Usage),
+    ("proxy a", Usage),
+    ("proxy a 0", Usage),
+    ("proxy a 1000001", Usage),
+    ("proxy a +1", Usage),
+    ("proxy a 1 1", Usage),
+    ("proxy -x 1", Usage),
+    ("proxy -- a 1", Usage),
 ];
 
 fn answer_of(owed: Owed) -> Result<Command<'static>, Refused> {
@@ -132,6 +154,12 @@ fn answer_of(owed: Owed) -> Result<Command<'static>, Refused> {
         Trial(seed, count) => Ok(Command::Trial { seed, count }),
         Mime(text) => Ok(Command::Mime(text.as_bytes())),
         Serve(address, count) => Ok(Command::Serve {
+            address: address.as_bytes(),
+            count,
+        }),
+        Har => Ok(Command::Har),
+        Type => Ok(Command::Type),
+        Proxy(address, count) => Ok(Command::Proxy {
             address: address.as_bytes(),
             count,
         }),

@@ -8,7 +8,7 @@ use Rattle.orb_engine.specs.Ends.{End}
 use Rattle.orb_engine.specs.Complete.{IsWholeRecording, IsAll}
 use Rattle.orb_engine.proofs.CompleteLemmas.{prefix_is_all, whole_is_not_endless}
 use Rattle.orb_cli.specs.declared.outcome.Outcome.{Outcome}
-use Rattle.orb_cli.specs.declared.outcome.Outcome.TheVariants.{Done, Usage, Bad, Cut, HeadLimit, MediaFull, Endless, ReadFault, WriteFault, NoMemory}
+use Rattle.orb_cli.specs.declared.outcome.Outcome.TheVariants.{Done, Usage, Bad, Cut, HeadLimit, MediaFull, Endless, ReadFault, WriteFault, NoMemory, NotHar, HarLimit}
 use Rattle.orb_cli.specs.Answer.{EndsAt, IsJudgeAnswer, IsMimeAnswer, IsTrialAnswer, Ran, HasCauses}
 use Rattle.orb_cli.specs.Complete.{IsComplete, IsCompleteText, IsCompleteTrial}
 
@@ -48,6 +48,8 @@ complete_recording s bytes r (Some rest) wrote m m' n n' Endless whole ran cause
 complete_recording s bytes r (Some rest) wrote m m' n n' ReadFault whole ran causes calm calm' = calm causes.0
 complete_recording s bytes r (Some rest) wrote m m' n n' WriteFault whole ran causes calm calm' = calm' causes.1
 complete_recording s bytes r (Some rest) wrote m m' n n' Usage whole ran causes calm calm' = ran.answers
+complete_recording s bytes r (Some rest) wrote m m' n n' (NotHar entry) whole ran causes calm calm' = ran.answers
+complete_recording s bytes r (Some rest) wrote m m' n n' HarLimit whole ran causes calm calm' = ran.answers
 complete_recording s bytes r (Some rest) wrote m m' n n' NoMemory whole ran causes calm calm' =
     let same : bytes ≡ rest = ran.lost ∙ ap (λ l. l ++ rest) ran.answers.0 in
     (ap Some (sym same), ran.answers.1)

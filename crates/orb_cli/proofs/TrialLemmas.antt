@@ -101,12 +101,12 @@ number_is zero_ m n size none gained told fits =
     least k below = grind (arith, nat_tests, below)
 
 -- what is written of the self-test is shorter than 2^64 bytes
-trial-short : (s : Settings) (seed count : ℕ) (r : Recording) → count ≤ 1000000 → IsTrialRecording s seed count r
-    → length (output_of s r true) < 2 ^ 64
+trial-short : (seed count : ℕ) (r : Recording) → count ≤ 1000000 → IsTrialRecording trial_settings seed count r
+    → length (output_of trial_settings r true) < 2 ^ 64
 unfolding run_limit
-trial-short s seed count r few is =
-    let fits = (is_recorded s seed count few).whole.fits in
-    let short = output-short s (trial_of seed count) r true is.cut (omega (arith, is.number, few)) (omega (arith, fits)) in
+trial-short seed count r few is =
+    let fits = (is_recorded trial_settings seed count few).whole.fits in
+    let short = output-short trial_settings (trial_of seed count) r true refl is.cut in
     omega (arith, short, fits, is.number, few)
 
 -- the line of the counts is that of the self-test
@@ -119,7 +119,7 @@ line_is e s seed count allowed blocked zero_ m n line same few none gives allows
     let h : RunsTrial e trial_settings seed count gives.more =
     subst (λ (t : Settings). RunsTrial e t seed count gives.more) same gives.holds in
     let size = ap length h.output in
-    let short = trial-short trial_settings seed count h.recording few h.is in
+    let short = trial-short seed count h.recording few h.is in
     let number = number_is zero_ m n (length gives.more) none gives.gained.number (same_Some _ _ told) (omega (arith, size, short)) in
     record {
       recording = h.recording;

@@ -1,14 +1,16 @@
 -- From what the words ask for to what an answer says, and back.
-use Rattle.std.proofs.Common.{◌≡◌, ℕ, Bool, true, false, List, [], Option, ap, ◌∙◌, subst, arith}
+use Rattle.std.proofs.Common.{◌≡◌, ℕ, Bool, true, false, List, [], Option, ◌⊎◌, inl, inr, ap, ◌∙◌, subst, arith}
 use Rattle.orb_io.proofs.ToldLemmas.{Loses-none}
 use Rattle.command_line.specs.declared.asked.Job.{Job}
 use Rattle.command_line.specs.declared.asked.Policy.{Policy}
-use Rattle.command_line.specs.Taken.{Asked, Judge, Trial, Mime, IsTaken}
+use Rattle.command_line.specs.Taken.{Asked, Judge, Trial, Mime, Har, ComputedType, IsTaken}
 use Rattle.command_line.proofs.TakenLemmas.{one_asked}
 use Rattle.orb_cli.specs.declared.outcome.Outcome.{Outcome}
-use Rattle.orb_cli.specs.declared.outcome.Outcome.TheVariants.{Done, Usage, Bad, Cut, HeadLimit, MediaFull, Endless, ReadFault, WriteFault, NoMemory}
+use Rattle.orb_cli.specs.declared.outcome.Outcome.TheVariants.{Done, Usage, Bad, Cut, HeadLimit, MediaFull, Endless, ReadFault, WriteFault, NoMemory, NotHar, HarLimit}
 use Rattle.orb_cli.specs.Words.{settings_of, is_run, AreRefused}
-use Rattle.orb_cli.specs.Answer.{IsJudgeAnswer, IsMimeAnswer, IsTrialAnswer, IsAnswer, Answers, AnswersWords, Ran}
+use Rattle.orb_cli.specs.Answer.{IsJudgeAnswer, IsMimeAnswer, IsTrialAnswer, IsAnswer, Answers, AnswersWords, FindsNoMemory, Untouched, Ran}
+use Rattle.orb_cli.specs.Har.{IsHarAnswer}
+use Rattle.orb_cli.specs.Typed.{IsTypeAnswer}
 
 -- what says another thing of an answer
 pub Ran-as : (P Q : (read : List ℕ) (ended : Bool) (wrote : List ℕ) → Outcome → Type 0)
@@ -42,7 +44,7 @@ pub mime_words : (words : List (List ℕ)) (text : List ℕ) → IsTaken words (
     → IsMimeAnswer text read answer wrote → Answers words read ended wrote answer
 mime_words words text taken Done read ended wrote says = (Mime text, taken, says)
 mime_words words text taken WriteFault read ended wrote says = (Mime text, taken, says)
-mime_words words text taken NoMemory read ended wrote says = says
+mime_words words text taken NoMemory read ended wrote says = (inl says.0, says.1)
 mime_words words text taken _ read ended wrote says = absurd says
 
 pub trial_words : (words : List (List ℕ)) (seed count : ℕ) → IsTaken words (Trial seed count)
@@ -50,8 +52,60 @@ pub trial_words : (words : List (List ℕ)) (seed count : ℕ) → IsTaken words
     → IsTrialAnswer seed count read answer wrote → Answers words read ended wrote answer
 trial_words words seed count taken Done read ended wrote says = (Trial seed count, taken, says)
 trial_words words seed count taken WriteFault read ended wrote says = (Trial seed count, taken, says)
-trial_words words seed count taken NoMemory read ended wrote says = says
+trial_words words seed count taken NoMemory read ended wrote says = (inl says.0, says.1)
 trial_words words seed count taken _ read ended wrote says = absurd says
+
+pub har_words : (words : List (List ℕ)) → IsTaken words Har → (answer : Outcome) (read : List ℕ) (ended : Bool) (wrote : List ℕ)
+    → IsHarAnswer read ended wrote answer → Answers words read ended wrote answer
+har_words words taken Done read ended wrote says = (Har, taken, says)
+har_words words taken (Bad kind place) read ended wrote says = (Har, taken, says)
+har_words words taken (Cut place) read ended wrote says = (Har, taken, says)
+har_words words taken (HeadLimit place) read ended wrote says = (Har, taken, says)
+har_words words taken (MediaFull place) read ended wrote says = (Har, taken, says)
+har_words words taken ReadFault read ended wrote says = (Har, taken, says)
+har_words words taken WriteFault read ended wrote says = (Har, taken, says)
+har_words words taken (NotHar entry) read ended wrote says = (Har, taken, says)
+har_words words taken HarLimit read ended wrote says = (Har, taken, says)
+har_words words taken NoMemory read ended wrote says = (inr taken, says)
+har_words words taken Endless read ended wrote says = absurd says
+har_words words taken Usage read ended wrote says = absurd says
+
+pub type_words : (words : List (List ℕ)) → IsTaken words ComputedType → (answer : Outcome) (read : List ℕ) (ended : Bool) (wrote : List ℕ)
+    → IsTypeAnswer read ended wrote answer → Answers words read ended wrote answer
+type_words words taken Done read ended wrote says = (ComputedType, taken, says)
+type_words words taken (Bad kind place) read ended wrote says = (ComputedType, taken, says)
+type_words words taken (Cut place) read ended wrote says = (ComputedType, taken, says)
+type_words words taken (HeadLimit place) read ended wrote says = (ComputedType, taken, says)
+type_words words taken Endless read ended wrote says = (ComputedType, taken, says)
+type_words words taken ReadFault read ended wrote says = (ComputedType, taken, says)
+type_words words taken WriteFault read ended wrote says = (ComputedType, taken, says)
+type_words words taken NoMemory read ended wrote says = (inl says.0, says.1)
+type_words words taken (MediaFull place) read ended wrote says = absurd says
+type_words words taken (NotHar entry) read ended wrote says = absurd says
+type_words words taken HarLimit read ended wrote says = absurd says
+type_words words taken Usage read ended wrote says = absurd says
+
+pub judge_words : (words : List (List ℕ)) (job : Job) (policy : Policy) (limit : ℕ) → IsTaken words (Judge job policy limit)
+    → (answer : Outcome) (read : List ℕ) (ended : Bool) (wrote : List ℕ)
+    → IsJudgeAnswer (settings_of job policy limit) read ended wrote answer → Answers words read ended wrote answer
+judge_words words job policy limit taken Done read ended wrote says = (Judge job policy limit, taken, says)
+judge_words words job policy limit taken (Bad kind place) read ended wrote says = (Judge job policy limit, taken, says)
+judge_words words job policy limit taken (Cut place) read ended wrote says = (Judge job policy limit, taken, says)
+judge_words words job policy limit taken (HeadLimit place) read ended wrote says = (Judge job policy limit, taken, says)
+judge_words words job policy limit taken (MediaFull place) read ended wrote says = (Judge job policy limit, taken, says)
+judge_words words job policy limit taken ReadFault read ended wrote says = (Judge job policy limit, taken, says)
+judge_words words job policy limit taken WriteFault read ended wrote says = (Judge job policy limit, taken, says)
+judge_words words job policy limit taken Endless read ended wrote says = (Judge job policy limit, taken, says)
+judge_words words job policy limit taken NoMemory read ended wrote says = (inl says.0, says.1)
+judge_words words job policy limit taken Usage read ended wrote says = absurd says
+judge_words words job policy limit taken (NotHar entry) read ended wrote says = absurd says
+judge_words words job policy limit taken HarLimit read ended wrote says = absurd says
+
+-- words that ask for something else than a log: where memory ran out nothing was read
+untouched_of : (words : List (List ℕ)) (asked : Asked) (read wrote : List ℕ) → IsTaken words asked → (asked ≡ Har → ⊥)
+    → FindsNoMemory words read wrote → Untouched read wrote
+untouched_of words asked read wrote taken other (inl none, nothing) = (none, nothing)
+untouched_of words asked read wrote taken other (inr log, nothing) = absurd (other (one_asked words asked Har taken log))
 
 -- and what they say where the words ask for this
 said_of : (words : List (List ℕ)) (asked : Asked) (read : List ℕ) (ended : Bool) (wrote : List ℕ) (answer : Outcome)
@@ -64,7 +118,9 @@ pub judged_of : (words : List (List ℕ)) (job : Job) (policy : Policy) (limit :
     → Answers words read ended wrote answer → IsJudgeAnswer (settings_of job policy limit) read ended wrote answer
 judged_of words job policy limit taken Usage read ended wrote says =
     absurd (let no : true ≡ false = says.0 (Judge job policy limit) taken in cc)
-judged_of words job policy limit taken NoMemory read ended wrote says = says
+judged_of words job policy limit taken NoMemory read ended wrote says = untouched_of words (Judge job policy limit) read wrote taken (λ e. cc) says
+judged_of words job policy limit taken (NotHar entry) read ended wrote says = said_of words (Judge job policy limit) read ended wrote (NotHar entry) taken says
+judged_of words job policy limit taken HarLimit read ended wrote says = said_of words (Judge job policy limit) read ended wrote HarLimit taken says
 judged_of words job policy limit taken Done read ended wrote says = said_of words (Judge job policy limit) read ended wrote Done taken says
 judged_of words job policy limit taken (Bad kind place) read ended wrote says = said_of words (Judge job policy limit) read ended wrote (Bad kind place) taken says
 judged_of words job policy limit taken (Cut place) read ended wrote says = said_of words (Judge job policy limit) read ended wrote (Cut place) taken says
@@ -78,7 +134,9 @@ pub mime_of : (words : List (List ℕ)) (text : List ℕ) → IsTaken words (Mim
     → (answer : Outcome) (read : List ℕ) (ended : Bool) (wrote : List ℕ)
     → Answers words read ended wrote answer → IsMimeAnswer text read answer wrote
 mime_of words text taken Usage read ended wrote says = absurd (let no : true ≡ false = says.0 (Mime text) taken in cc)
-mime_of words text taken NoMemory read ended wrote says = says
+mime_of words text taken NoMemory read ended wrote says = untouched_of words (Mime text) read wrote taken (λ e. cc) says
+mime_of words text taken (NotHar entry) read ended wrote says = said_of words (Mime text) read ended wrote (NotHar entry) taken says
+mime_of words text taken HarLimit read ended wrote says = said_of words (Mime text) read ended wrote HarLimit taken says
 mime_of words text taken Done read ended wrote says = said_of words (Mime text) read ended wrote Done taken says
 mime_of words text taken (Bad kind place) read ended wrote says = said_of words (Mime text) read ended wrote (Bad kind place) taken says
 mime_of words text taken (Cut place) read ended wrote says = said_of words (Mime text) read ended wrote (Cut place) taken says
@@ -92,7 +150,9 @@ pub trial_of : (words : List (List ℕ)) (seed count : ℕ) → IsTaken words (T
     → (answer : Outcome) (read : List ℕ) (ended : Bool) (wrote : List ℕ)
     → Answers words read ended wrote answer → IsTrialAnswer seed count read answer wrote
 trial_of words seed count taken Usage read ended wrote says = absurd (let no : true ≡ false = says.0 (Trial seed count) taken in cc)
-trial_of words seed count taken NoMemory read ended wrote says = says
+trial_of words seed count taken NoMemory read ended wrote says = untouched_of words (Trial seed count) read wrote taken (λ e. cc) says
+trial_of words seed count taken (NotHar entry) read ended wrote says = said_of words (Trial seed count) read ended wrote (NotHar entry) taken says
+trial_of words seed count taken HarLimit read ended wrote says = said_of words (Trial seed count) read ended wrote HarLimit taken says
 trial_of words seed count taken Done read ended wrote says = said_of words (Trial seed count) read ended wrote Done taken says
 trial_of words seed count taken (Bad kind place) read ended wrote says = said_of words (Trial seed count) read ended wrote (Bad kind place) taken says
 trial_of words seed count taken (Cut place) read ended wrote says = said_of words (Trial seed count) read ended wrote (Cut place) taken says
@@ -101,3 +161,18 @@ trial_of words seed count taken (MediaFull place) read ended wrote says = said_o
 trial_of words seed count taken Endless read ended wrote says = said_of words (Trial seed count) read ended wrote Endless taken says
 trial_of words seed count taken ReadFault read ended wrote says = said_of words (Trial seed count) read ended wrote ReadFault taken says
 trial_of words seed count taken WriteFault read ended wrote says = said_of words (Trial seed count) read ended wrote WriteFault taken says
+
+pub har_of : (words : List (List ℕ)) → IsTaken words Har → (answer : Outcome) (read : List ℕ) (ended : Bool) (wrote : List ℕ)
+    → Answers words read ended wrote answer → IsHarAnswer read ended wrote answer
+har_of words taken Usage read ended wrote says = absurd (let no : true ≡ false = says.0 Har taken in cc)
+har_of words taken NoMemory read ended wrote says = says.1
+har_of words taken Done read ended wrote says = said_of words Har read ended wrote Done taken says
+har_of words taken (Bad kind place) read ended wrote says = said_of words Har read ended wrote (Bad kind place) taken says
+har_of words taken (Cut place) read ended wrote says = said_of words Har read ended wrote (Cut place) taken says
+har_of words taken (HeadLimit place) read ended wrote says = said_of words Har read ended wrote (HeadLimit place) taken says
+har_of words taken (MediaFull place) read ended wrote says = said_of words Har read ended wrote (MediaFull place) taken says
+har_of words taken ReadFault read ended wrote says = said_of words Har read ended wrote ReadFault taken says
+har_of words taken WriteFault read ended wrote says = said_of words Har read ended wrote WriteFault taken says
+har_of words taken (NotHar entry) read ended wrote says = said_of words Har read ended wrote (NotHar entry) taken says
+har_of words taken HarLimit read ended wrote says = said_of words Har read ended wrote HarLimit taken says
+har_of words taken Endless read ended wrote says = said_of words Har read ended wrote Endless taken says

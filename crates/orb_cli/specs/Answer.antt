@@ -1,5 +1,5 @@
 -- What an answer of `run` says of the bytes read and written, and of the counts of faults.
-use Rattle.std.specs.Prelude.{◌≡◌, ℕ, ◌<◌, ◌≤◌, Bool, true, false, List, [], ◌++◌, length, take, Option}
+use Rattle.std.specs.Prelude.{◌≡◌, ◌⊎◌, ℕ, ◌<◌, ◌≤◌, Bool, true, false, List, [], ◌++◌, length, take, Option}
 use Rattle.orb_io.specs.Told.{Loses, IsAtEnd, IsPrefix, Rose}
 use Rattle.orb_engine.specs.declared.settings.Settings.{Settings}
 use Rattle.orb_engine.specs.Recording.{Recording, IsRecording}
@@ -9,10 +9,12 @@ use Rattle.orb_engine.specs.Outputs.{output_of}
 use Rattle.orb_engine.specs.Runs.{run_limit}
 use Rattle.orb_cli.specs.declared.outcome.Outcome.{Outcome}
 use Rattle.orb_cli.specs.declared.outcome.Outcome.TheVariants as outcomes
-use Rattle.command_line.specs.Taken.{Asked, Judge, Trial, Mime, Serve, IsTaken}
+use Rattle.command_line.specs.Taken.{Asked, Judge, Trial, Mime, Har, ComputedType, Serve, Proxy, IsTaken}
 use Rattle.orb_cli.specs.Words.{settings_of, AreRefused}
 use Rattle.orb_cli.specs.MimeLine.{IsMimeLine}
 use Rattle.orb_cli.specs.Trial.{IsTrialLine}
+use Rattle.orb_cli.specs.Har.{IsHarAnswer}
+use Rattle.orb_cli.specs.Typed.{IsTypeAnswer}
 
 -- nothing was read or written
 abbrev pub Untouched : (read wrote : List ℕ) → Type 0
@@ -48,6 +50,8 @@ IsJudgeAnswer s read ended wrote outcomes.ReadFault = (ended ≡ false) × EndsA
 IsJudgeAnswer s read ended wrote outcomes.WriteFault = FallsShort s read ended wrote
 IsJudgeAnswer s read ended wrote outcomes.NoMemory = Untouched read wrote
 IsJudgeAnswer s read ended wrote outcomes.Usage = ⊥
+IsJudgeAnswer s read ended wrote (outcomes.NotHar entry) = ⊥
+IsJudgeAnswer s read ended wrote outcomes.HarLimit = ⊥
 
 -- what an answer to `mime` with this text says: nothing is ever read
 abbrev pub IsMimeAnswer : (text read : List ℕ) → Outcome → (wrote : List ℕ) → Type 0
@@ -70,17 +74,24 @@ abbrev pub IsAnswer : Asked → (read : List ℕ) (ended : Bool) (wrote : List �
 IsAnswer (Judge job policy limit) read ended wrote answer = IsJudgeAnswer (settings_of job policy limit) read ended wrote answer
 IsAnswer (Mime text) read ended wrote answer = IsMimeAnswer text read answer wrote
 IsAnswer (Trial seed count) read ended wrote answer = IsTrialAnswer seed count read answer wrote
+IsAnswer Har read ended wrote answer = IsHarAnswer read ended wrote answer
+IsAnswer ComputedType read ended wrote answer = IsTypeAnswer read ended wrote answer
 IsAnswer (Serve address count) read ended wrote answer = ⊥
+IsAnswer (Proxy address count) read ended wrote answer = ⊥
 
 -- what the words ask for, and that the answer says so of it
 abbrev pub AnswersWords : List (List ℕ) → (read : List ℕ) (ended : Bool) (wrote : List ℕ) → Outcome → Type 0
 AnswersWords words read ended wrote answer = (asked : Asked) × IsTaken words asked × IsAnswer asked read ended wrote answer
 
+-- nothing was written, and nothing read but for a HAR log
+abbrev pub FindsNoMemory : List (List ℕ) → (read wrote : List ℕ) → Type 0
+FindsNoMemory words read wrote = ((read ≡ []) ⊎ IsTaken words Har) × (wrote ≡ [])
+
 -- What an answer to these words says: `Usage` comes exactly where they ask `run` for nothing, but that there may be no
 -- memory for any words.
 abbrev pub Answers : (words : List (List ℕ)) (read : List ℕ) (ended : Bool) (wrote : List ℕ) → Outcome → Type 0
 Answers words read ended wrote outcomes.Usage = AreRefused words × Untouched read wrote
-Answers words read ended wrote outcomes.NoMemory = Untouched read wrote
+Answers words read ended wrote outcomes.NoMemory = FindsNoMemory words read wrote
 Answers words read ended wrote answer = AnswersWords words read ended wrote answer
 
 -- The bytes that the source lost, whether the input has ended, and what the answer says of them and of what was

@@ -5,6 +5,7 @@ use Rattle.orb_engine.specs.Recording.{Recording}
 use Rattle.orb_engine.specs.Outputs.{output_of}
 use Rattle.orb_cli.specs.MimeLine.{IsMimeLine}
 use Rattle.orb_cli.specs.Trial.{IsTrialLine}
+use Rattle.orb_cli.specs.Har.{log_settings}
 use Rattle.orb_cli.specs.declared.outcome.Outcome.{Outcome}
 use Rattle.orb_cli.specs.declared.outcome.Outcome.TheVariants as outcomes
 
@@ -25,3 +26,9 @@ abbrev pub IsCompleteTrial : (seed count : ℕ) (wrote : List ℕ) → Outcome �
 IsCompleteTrial seed count wrote outcomes.Done = IsTrialLine seed count wrote
 IsCompleteTrial seed count wrote outcomes.NoMemory = wrote ≡ []
 IsCompleteTrial seed count wrote _ = ⊥
+
+-- all of the log was read and all lines of its recording were written, or there was no memory and nothing was written
+abbrev pub IsCompleteLog : Recording → (left' : Option (List ℕ)) → (wrote : List ℕ) → Outcome → Type 0
+IsCompleteLog r left' wrote outcomes.Done = (left' ≡ Some []) × (wrote ≡ output_of log_settings r true)
+IsCompleteLog r left' wrote outcomes.NoMemory = wrote ≡ []
+IsCompleteLog r left' wrote _ = ⊥

@@ -7,3 +7,5 @@ pub mod Report
 pub mod Trial
 pub mod Serving
 pub mod ServeWords
+pub mod Har
+pub mod Typed

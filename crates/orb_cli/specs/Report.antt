@@ -19,6 +19,8 @@ status_of outcomes.Endless = 4
 status_of outcomes.ReadFault = 5
 status_of outcomes.WriteFault = 6
 status_of outcomes.NoMemory = 7
+status_of (outcomes.NotHar entry) = 9
+status_of outcomes.HarLimit = 4
 
 -- the word for what is bad
 abbrev pub kind_name : BadKind → List ℕ
@@ -33,7 +35,7 @@ kind_name BadChunk = codes "bad-chunk"
 abbrev pub line_text : List ℕ → List ℕ
 line_text text = codes "orb: " ++ (text ++ (10 ∷ []))
 
--- a line that names a place
+-- a line that names a place, or an entry
 abbrev pub line_text_at : List ℕ → ℕ → List ℕ
 line_text_at text place = line_text (text ++ (codes " at " ++ decimal place))
 
@@ -49,6 +51,8 @@ line_of outcomes.Endless = line_text (codes "endless")
 line_of outcomes.ReadFault = line_text (codes "read fault")
 line_of outcomes.WriteFault = line_text (codes "write fault")
 line_of outcomes.NoMemory = line_text (codes "no memory")
+line_of (outcomes.NotHar entry) = line_text_at (codes "not har") entry
+line_of outcomes.HarLimit = line_text (codes "har limit")
 
 -- the program's status where it served connections
 abbrev pub serve_status_of : ServeOutcome → ℕ

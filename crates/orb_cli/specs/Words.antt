@@ -29,7 +29,10 @@ abbrev pub is_run : Asked → Bool
 is_run (words.Judge job policy limit) = true
 is_run (words.Trial seed count) = true
 is_run (words.Mime text) = true
+is_run words.Har = true
+is_run words.ComputedType = true
 is_run (words.Serve address count) = false
+is_run (words.Proxy address count) = false
 
 -- the words ask `run` for nothing
 abbrev pub AreRefused : List (List ℕ) → Type 0

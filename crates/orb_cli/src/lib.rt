@@ -2,7 +2,7 @@
 //!
 //! [`run`] is the call that the program makes, and its contract is what the program promises.
 //! `specs/` says it from the outside in: `Words` which command lines are taken, `Answer` what each
-//! answer says of the bytes read and written and of the faults, `Complete` when the answer is `Done`,
+//! answer says of the bytes read and written and of the faults, `Har` the same of a log, `Complete` when the answer is `Done`,
 //! and `Report` the status and the line. What a recording is, where it ends and what is written of it
 //! stands in the definitions of `orb_engine`.
 //!
@@ -12,6 +12,7 @@
 #![tactic(auto)]
 
 mod commands;
+mod har_word;
 mod judging;
 mod laws;
 mod mime_word;
@@ -23,7 +24,9 @@ mod serving;
 mod tests;
 mod top;
 mod trial_word;
+mod type_word;
 
+pub use har_word::MOST_OF_A_LOG;
 pub use laws::{completeness, serving_completeness};
 pub use outcome::{Outcome, ServeOutcome};
 pub use report::{outcome_line, serve_outcome_line};

@@ -1,7 +1,8 @@
 //! How a run ends, and how serving does.
 ghost use Rattle.std.specs.Prelude.{◌≡◌};
-ghost use Rattle.orb_cli.specs.Outcomes.{outcome_of};
+ghost use Rattle.orb_cli.specs.Outcomes.{outcome_of, typed_outcome};
 
+use computed_type::TypeOutcome;
 use http_exchange::BadKind;
 use orb_engine::EngineOutcome;
 
@@ -26,8 +27,12 @@ pub enum Outcome {
     ReadFault,
     /// The sink failed.
     WriteFault,
-    /// There was no memory for the run: nothing was read or written.
+    /// There was no memory for the run: nothing was written, and nothing read but for a HAR log.
     NoMemory,
+    /// The input is no HAR log: this entry, numbered from 1, isn't whole, or 0 where the fault is outside the entries.
+    NotHar { entry: u64 },
+    /// The input is longer than a HAR log may be.
+    HarLimit,
 }
 
 /// How serving connections ended.
@@ -60,6 +65,22 @@ impl From<EngineOutcome> for Outcome {
             EngineOutcome::Endless => Outcome::Endless,
             EngineOutcome::ReadFault => Outcome::ReadFault,
             EngineOutcome::WriteFault => Outcome::WriteFault,
+        }
+    }
+}
+
+impl From<TypeOutcome> for Outcome {
+    ghost from_gives = { λ end outcome. outcome ≡ typed_outcome end };
+
+    fn from(end: TypeOutcome) -> Outcome {
+        match end {
+            TypeOutcome::Done => Outcome::Done,
+            TypeOutcome::Bad { kind } => Outcome::Bad { kind, place: 0 },
+            TypeOutcome::Cut => Outcome::Cut { place: 0 },
+            TypeOutcome::HeadLimit => Outcome::HeadLimit { place: 0 },
+            TypeOutcome::Endless => Outcome::Endless,
+            TypeOutcome::ReadFault => Outcome::ReadFault,
+            TypeOutcome::WriteFault => Outcome::WriteFault,
         }
     }
 }

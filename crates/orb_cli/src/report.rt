@@ -17,10 +17,14 @@ impl Outcome {
             Outcome::Usage => 1,
             Outcome::Bad { .. } => 2,
             Outcome::Cut { .. } => 3,
-            Outcome::HeadLimit { .. } | Outcome::MediaFull { .. } | Outcome::Endless => 4,
+            Outcome::HeadLimit { .. }
+            | Outcome::MediaFull { .. }
+            | Outcome::Endless
+            | Outcome::HarLimit => 4,
             Outcome::ReadFault => 5,
             Outcome::WriteFault => 6,
             Outcome::NoMemory => 7,
+            Outcome::NotHar { .. } => 9,
         }
     }
 }
@@ -40,6 +44,8 @@ pub fn outcome_line(outcome: &Outcome) -> ArrayVec<u8, 96>
         Outcome::ReadFault => line(b"read fault"),
         Outcome::WriteFault => line(b"write fault"),
         Outcome::NoMemory => line(b"no memory"),
+        Outcome::NotHar { entry } => line_at(b"not har", *entry),
+        Outcome::HarLimit => line(b"har limit"),
     }
 }
 

@@ -1,4 +1,5 @@
 //! Recordings and words through [`run`], with the answers that are owed.
+
 use crate::{Outcome, ServeOutcome, outcome_line, run, serve_outcome_line};
 use http_exchange::BadKind;
 use orb_bytes::{decimal, read_decimal};
@@ -145,13 +146,56 @@ const WORKED: &[Row] = &[
         b"GET / HTTP/1.1\r\nSec-Fetch-Mode: no-cors\r\nSec-Fetch-Dest: audio\r\nOrb-Media: 7\r\n\r\n\
          HTTP/1.1 206 OK\r\nContent-Type: application/ogg\r\nContent-Range: bytes 0-1023/9000\r\n\
          Content-Length: 1024\r\n\r\n\
-         OggS~0-1019:\0~GET / HTTP/1.1\r\nSec-Fetch-Mode: no-cors\r\nSec-Fetch-Dest: audio\r\n\
-         Orb-Media: 7\r\n\r\n\
+         OggS~0-1019:\0~\
+         GET / HTTP/1.1\r\nSec-Fetch-Mode: no-cors\r\nSec-Fetch-Dest: audio\r\nOrb-Media: 7\r\n\r\n\
          HTTP/1.1 206 OK\r\nContent-Type: application/ogg\r\nContent-Range: bytes 1024-2047/9000\r\n\
          Content-Length: 1024\r\n\r\n\
          ~0-1023:\0~",
         Done,
-        b"1 allow media subsequent 1024\n2 allow subsequent subsequent 1024\n",
+        b"1 allow media subsequent:9000 1024\n\
+         2 allow subsequent subsequent:9000 1024\n",
+    ),
+    (
+        "a range of another whole",
+        "explain",
+        Calm,
+        b"GET / HTTP/1.1\r\nSec-Fetch-Mode: no-cors\r\nSec-Fetch-Dest: audio\r\nOrb-Media: 7\r\n\r\n\
+         HTTP/1.1 206 OK\r\nContent-Type: application/ogg\r\nContent-Range: bytes 0-1023/9000\r\n\
+         Content-Length: 1024\r\n\r\n\
+         OggS~0-1019:\0~\
+         GET / HTTP/1.1\r\nSec-Fetch-Mode: no-cors\r\nSec-Fetch-Dest: audio\r\nOrb-Media: 7\r\n\r\n\
+         HTTP/1.1 206 OK\r\nContent-Type: application/ogg\r\nContent-Range: bytes 1024-2047/9000\r\n\
+         Content-Length: 1024\r\n\r\n\
+         ~0-1023:\0~\
+         GET / HTTP/1.1\r\nSec-Fetch-Mode: no-cors\r\nSec-Fetch-Dest: audio\r\nOrb-Media: 7\r\n\r\n\
+         HTTP/1.1 206 OK\r\nContent-Type: application/ogg\r\nContent-Range: bytes 2048-3071/9001\r\n\
+         Content-Length: 1024\r\n\r\n\
+         ~0-1023:\0~",
+        Done,
+        b"1 allow media subsequent:9000 1024\n\
+         2 allow subsequent subsequent:9000 1024\n\
+         3 block range-mismatch subsequent:9000 1024\n",
+    ),
+    (
+        "a length that a later range states first",
+        "explain",
+        Calm,
+        b"GET / HTTP/1.1\r\nSec-Fetch-Mode: no-cors\r\nSec-Fetch-Dest: audio\r\nOrb-Media: 7\r\n\r\n\
+         HTTP/1.1 206 OK\r\nContent-Type: application/ogg\r\nContent-Range: bytes 0-1023/*\r\n\
+         Content-Length: 1024\r\n\r\n\
+         OggS~0-1019:\0~\
+         GET / HTTP/1.1\r\nSec-Fetch-Mode: no-cors\r\nSec-Fetch-Dest: audio\r\nOrb-Media: 7\r\n\r\n\
+         HTTP/1.1 206 OK\r\nContent-Type: application/ogg\r\nContent-Range: bytes 1024-2047/9000\r\n\
+         Content-Length: 1024\r\n\r\n\
+         ~0-1023:\0~\
+         GET / HTTP/1.1\r\nSec-Fetch-Mode: no-cors\r\nSec-Fetch-Dest: audio\r\nOrb-Media: 7\r\n\r\n\
+         HTTP/1.1 206 OK\r\nContent-Type: application/ogg\r\nContent-Range: bytes 0-1023/9001\r\n\
+         Content-Length: 1024\r\n\r\n\
+         ~0-1023:\0~",
+        Done,
+        b"1 allow media subsequent 1024\n\
+         2 allow subsequent subsequent:9000 1024\n\
+         3 block range-mismatch subsequent:9000 1024\n",
     ),
     (
         "a first range that is none",
@@ -767,6 +811,9 @@ fn other_words_are_refused(rt: HostRuntime) -> Result<(), Fail> {
         run_alone(rt.alloc(), &["mime", "-a/b"])?.0,
         run_alone(rt.alloc(), &["mime", "a/b", "c/d"])?.0,
         run_alone(rt.alloc(), &["serve", "127.0.0.1:0", "1"])?.0,
+        run_alone(rt.alloc(), &["proxy", "127.0.0.1:0", "1"])?.0,
+        run_alone(rt.alloc(), &["type", "x"])?.0,
+        run_alone(rt.alloc(), &["har", "x"])?.0,
         run_alone(rt.alloc(), &["trial", "0", "0"])?.0,
         run_alone(rt.alloc(), &["filter", "--limit", "1023"])?.0,
         run_alone(rt.alloc(), &["filter", "--limit=1024", "--limit=1024"])?.0,
@@ -804,7 +851,7 @@ fn trial_writes_a_line(rt: HostRuntime) -> Result<(), Fail> {
         ("8", b"exchanges 8 allow 5 block 3 written 646\n"),
         (
             "8072",
-            b"exchanges 8072 allow 5045 block 3027 written 7233237\n",
+            b"exchanges 8072 allow 4052 block 4020 written 6682308\n",
         ),
     ];
     for (count, line) in cases {
@@ -815,9 +862,72 @@ fn trial_writes_a_line(rt: HostRuntime) -> Result<(), Fail> {
     Ok(())
 }
 
+/// A word, what it reads, the answer, and what it writes. Where the second pull of a byte fails, nothing is written.
+const INPUTS: &[(&str, &[u8], Outcome, &[u8])] = &[
+    (
+        "har",
+        br#"{"log":{"entries":[{"request":{"method":"GET","headers":[{"name":"Sec-Fetch-Mode","value":"no-cors"}]},"response":{"status":200,"headers":[{"name":"Content-Type","value":"text/html"},{"name":"X-Content-Type-Options","value":"nosniff"}],"content":{"text":"<p>"}}}]}}"#,
+        Outcome::Done,
+        b"1 block nosniff-blocklisted na 3\n",
+    ),
+    (
+        "har",
+        br#"{"log":{"entries":[{"request":{"method":"GET","headers":[{"name":":authority","value":"a.test"},{"name":"Sec-Fetch-Mode","value":"no-cors"}]},"response":{"status":200,"headers":[],"content":{"text":"R0lGODlh","encoding":"base64"}}}]}}"#,
+        Outcome::Done,
+        b"1 allow image na 6\n",
+    ),
+    ("har", b"{}", Outcome::NotHar { entry: 0 }, b""),
+    (
+        "har",
+        br#"{"log":{"entries":[1]}}"#,
+        Outcome::NotHar { entry: 1 },
+        b"",
+    ),
+    ("har", br#"{"log":{"entries":[]}}"#, Outcome::Done, b""),
+    (
+        "type",
+        b"HTTP/1.1 200 OK\r\n\r\n <P >x",
+        Outcome::Done,
+        b"text/html\n",
+    ),
+    (
+        "type",
+        b"HTTP/1.1 200 OK\r\nContent-Type: image/gif\r\n\r\n\x89PNG\r\n\x1a\n",
+        Outcome::Done,
+        b"image/png\n",
+    ),
+    ("type", b"HTTP/1.1", Outcome::Cut { place: 0 }, b""),
+    (
+        "type",
+        b"HTTP/1.1 100 Continue\r\n\r\n",
+        Outcome::Bad {
+            kind: Interim,
+            place: 0,
+        },
+        b"",
+    ),
+];
+
+#[test]
+fn logs_and_responses_are_read_whole(rt: HostRuntime) -> Result<(), Fail> {
+    for (word, input, owed, written) in INPUTS {
+        for piece in [1, 7, 8192] {
+            let bytes = input.to_vec(rt.alloc())?;
+            let (outcome, sink) = run_words(rt.alloc(), &[word], bytes, piece, (&[], &[]))?;
+            assert_eq!(rt; outcome, *owed);
+            assert!(rt; sink.bytes() == *written, "{word}");
+        }
+        let bytes = input.to_vec(rt.alloc())?;
+        let (outcome, sink) = run_words(rt.alloc(), &[word], bytes, 1, (&[1], &[]))?;
+        assert_eq!(rt; outcome, Outcome::ReadFault);
+        assert!(rt; sink.bytes().is_empty(), "{word}");
+    }
+    Ok(())
+}
+
 #[test]
 fn outcomes_have_their_status_and_line(rt: HostRuntime) {
-    let owed: [(Outcome, u8, &[u8]); 5] = [
+    let owed: [(Outcome, u8, &[u8]); 7] = [
         (Outcome::Done, 0, b""),
         (Outcome::Usage, 1, b"orb: words refused\n"),
         (
@@ -834,6 +944,8 @@ fn outcomes_have_their_status_and_line(rt: HostRuntime) {
             4,
             b"orb: head limit at 0\n",
         ),
+        (Outcome::NotHar { entry: 2 }, 9, b"orb: not har at 2\n"),
+        (Outcome::HarLimit, 4, b"orb: har limit\n"),
     ];
     for (outcome, status, line) in owed {
         assert_eq!(rt; outcome.status(), status);

@@ -4,10 +4,12 @@ ghost use Rattle.orb_io.specs.Told.{Gives};
 ghost use Rattle.orb_cli.specs.Answer.{Answers, Ran, HasCauses};
 
 use crate::commands::settings;
+use crate::har_word::har;
 use crate::judging::judge;
 use crate::mime_word::mime;
 use crate::outcome::Outcome;
 use crate::trial_word::trial;
+use crate::type_word::tell_type;
 use command_line::{Command, Refused, read_words};
 use orb_io::{Sink, Source};
 use std::alloc::Global;
@@ -17,9 +19,10 @@ use std::alloc::Global;
 /// The words `filter` and `explain`, with the options `--policy` and `--limit`, and `mime` with a text that doesn't begin with
 /// `-`, are taken ([`command_line`] says exactly which). `filter` and `explain` read a recording of HTTP exchanges from
 /// the source. `filter` writes each response that is allowed to the sink, and a reply in the place of each other; `explain`
-/// writes a line for each exchange. `mime` reads nothing and writes the MIME type of the text in a line. The answer is where
-/// the recording ends, or why it was not read or written whole ([`Outcome`]). A fault is answered only where the source or the
-/// sink had one. Want of memory is answered only with nothing read and nothing written.
+/// writes a line for each exchange. `har` reads a HAR log and writes these lines of the recording that it stands for. `type` reads
+/// a response, and writes the type that a browser takes it for. `mime` reads nothing and writes the MIME type of the text in a
+/// line; `trial` reads nothing, and writes what the filter makes of a recording of its own. The answer is where the input ends, or why it was not read or written whole ([`Outcome`]). A fault is answered only where the source or the
+/// sink had one. Want of memory is answered only with nothing written, and with nothing read but for a HAR log.
 pub fn run<I: Source, O: Sink>(
     alloc: Global,
     words: &[String],
@@ -42,6 +45,8 @@ pub fn run<I: Source, O: Sink>(
         }
         Command::Mime(text) => mime(alloc, text, output),
         Command::Trial { seed, count } => trial(alloc, seed, count, output),
-        Command::Serve { .. } => Outcome::Usage,
+        Command::Har => har(alloc, input, output),
+        Command::Type => tell_type(alloc, input, output),
+        Command::Serve { .. } | Command::Proxy { .. } => Outcome::Usage,
     }
 }

@@ -1,6 +1,8 @@
 use Rattle.orb_cli.specs.Words.{settings_of}
 use Rattle.orb_cli.specs.Answer.{Answers, IsJudgeAnswer, IsMimeAnswer, IsTrialAnswer}
-use Rattle.orb_cli.proofs.WordLemmas.{Ran-as, judged_of, mime_of, trial_of}
+use Rattle.orb_cli.proofs.WordLemmas.{Ran-as, judged_of, mime_of, trial_of, har_of}
+use Rattle.orb_cli.specs.Har.{IsHarAnswer}
+use Rattle.orb_cli.proofs.LogLemmas.{complete_log}
 use Rattle.orb_cli.proofs.CompleteLemmas.{complete_recording, complete_text, complete_trial}
 use Rattle.orb_cli.proofs.laws.completeness.Goals as goal
 
@@ -18,4 +20,8 @@ returns c = record {
       complete_trial seed count left left' wrote m m' n n' answer
       (Ran-as (Answers words) (λ read ended wrote answer. IsTrialAnswer seed count read answer wrote) left left' answer wrote
       (λ read ended. trial_of words seed count taken answer read ended wrote) ran) causes calm;
+  logs = λ words bytes recording r left' wrote m m' n n' answer taken fits stands cut done ran causes calm calm'.
+      complete_log bytes recording r left' wrote m m' n n' answer fits stands cut done
+      (Ran-as (Answers words) IsHarAnswer _ left' answer wrote (λ read ended. har_of words taken answer read ended wrote) ran)
+      causes calm calm';
 }

@@ -1,0 +1,6 @@
+mod RuleLemmas
+mod PlainLemmas
+mod ComputedLemmas
+mod WritingLemmas
+mod InputLemmas
+mod RunLemmas

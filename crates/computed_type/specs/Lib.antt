@@ -1,0 +1,9 @@
+pub mod Names
+pub mod Plain
+pub mod Unknown
+pub mod Rules
+pub mod Asked
+pub mod Computed
+pub mod Inputs
+pub mod Answers
+pub mod Reading
