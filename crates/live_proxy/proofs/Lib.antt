@@ -1,0 +1,5 @@
+mod TargetLemmas
+mod LineLemmas
+mod PrepareLemmas
+mod HearLemmas
+mod GatherLemmas
