@@ -1,6 +1,6 @@
 #!/bin/sh
-# Compares what `explain` and `filter` give of real and made input with what is owed of it: what a real browser got, and
-# 300 short texts, each a script or none. The input stands beside the clone, in `../shared/data`; where it doesn't,
+# Compares what `explain` and `filter` give of real and made input with what is owed of it: what a real browser got, the
+# log that it saved, and 300 short texts, each a script or none. The input stands beside the clone, in `../shared/data`; where it doesn't,
 # there is nothing to compare.
 top=$(cd "$(dirname "$0")/.." && pwd) || exit 70
 data=$top/../shared/data
@@ -32,6 +32,7 @@ for word in explain filter; do
     compare "$word --policy orb" "$data/made.rec" "$data/made.orb.$word"
     compare "$word --policy=corb" "$data/made.rec" "$data/made.corb.$word"
 done
+compare har "$data/chromium.har" "$data/chromium.har.explain"
 if "$top/tests/scripts.py" "$data/scripts.jsonl" "$made/scripts.rec" "$made/scripts.explain"; then
     compare explain "$made/scripts.rec" "$made/scripts.explain"
 else
