@@ -1,3 +1,4 @@
 pub mod States
 pub mod Table
+pub mod Entries
 pub mod Range

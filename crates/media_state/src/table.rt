@@ -1,16 +1,16 @@
 //! A table of media states by id, in memory that is taken once.
 //!
-//! It is a hash map with room for all the ids that it may keep, so that nothing after
-//! [`MediaTable::open`] can fail for want of memory.
-ghost use Rattle.std.specs.Prelude.{◌≡◌, ◌↔◌, ◌≤◌, true, IfOk, OnOk, OnErr, IsErr};
+//! It is a vector with room for all the ids that it may keep, so that nothing after
+//! [`MediaTable::open`] can fail for want of memory. Its entries stand in the order of their ids: no ids are slow to find.
+ghost use Rattle.std.specs.Prelude.{◌≡◌, ◌↔◌, ◌≤◌, true, IfOk, IfErr, OnOk, OnErr, IsErr};
 ghost use Rattle.std.specs.Ordering.{nat_cmp};
 ghost use Rattle.std.specs.FinMap as map;
 ghost use Rattle.media_state.specs.Table.{admitted, HasNoRoom, Enters, IsKept, stored};
+ghost use Rattle.media_state.specs.Entries.{AreInOrder, StandsAt, HasGapAt};
 
 use crate::states::MediaState;
 use orb_io::NoMemory;
 use std::alloc::Global;
-use std::collections::HashMap;
 use std::marker::Model;
 
 /// The most ids that a table keeps.
@@ -23,14 +23,15 @@ pub struct Full;
 /// The states of at most 4,096 ids.
 #[derive(Drop)]
 pub struct MediaTable {
-    states: HashMap<u64, MediaState>,
+    entries: Vec<(u64, MediaState)>,
 }
 
 impl Model for MediaTable {
-    ghost use Rattle.std.specs.Prelude.{◌≤◌, ◌+◌, nat_eq};
+    ghost use Rattle.std.specs.Prelude.{◌≤◌, vec_len, vec_capacity};
+    ghost use Rattle.std.specs.Ordering.{nat_cmp};
     ghost use Rattle.std.specs.FinMap as map;
-    ghost use Rattle.std.specs.HashMap.{hash_map_len, spare, IsUnique};
     ghost use Rattle.media_state.specs.Table.{States};
+    ghost use Rattle.media_state.specs.Entries.{AreInOrder};
     ghost use Rattle.std.specs.Coded.{coded_ℕ};
     ghost use Rattle.media_state.specs.contracts.states.MediaState as state;
 
@@ -38,19 +39,20 @@ impl Model for MediaTable {
 
     ghost coded = { map.code coded_ℕ state.the_row.coded };
 
-    ghost view = { λ t. map.from_entries t.states.entries };
+    ghost view = { λ t. map.from_sorted t.entries.items };
 
-    ghost invariant = { λ t. (hash_map_len t.states ≤ 4096)
-        × (4096 ≤ hash_map_len t.states + spare t.states) × IsUnique nat_eq t.states };
+    ghost invariant = { λ t. (vec_len t.entries ≤ 4096)
+        × (4096 ≤ vec_capacity t.entries) × AreInOrder t.entries.items };
 }
 
 impl MediaTable {
     /// An empty table, with room for all the ids that it may keep.
+    #[tactic(auto, using(crate::proofs::TableLemmas::view_none))]
     pub fn open(alloc: Global) -> Result<MediaTable, NoMemory>
         ensures { IfOk result (λ table. table ≡ map.empty) }
     {
-        match HashMap::with_capacity(alloc, MOST_IDS) {
-            Ok(states) => Ok(MediaTable { states }),
+        match Vec::with_capacity(alloc, MOST_IDS) {
+            Ok(entries) => Ok(MediaTable { entries }),
             Err(_) => Err(NoMemory),
         }
     }
@@ -59,7 +61,10 @@ impl MediaTable {
     pub fn look(&self, id: u64) -> Option<MediaState>
         ensures { result ≡ map.get self.now id }
     {
-        self.states.get(&id).copied()
+        match search(&self.entries, id) {
+            Ok(place) => Some(self.entries[place].1),
+            Err(_) => None,
+        }
     }
 
     /// Keeps the id: as `Initial` where it is new, and as it is where it is kept. `Full` exactly where
@@ -70,14 +75,14 @@ impl MediaTable {
         ensures err { OnErr result (self.new ≡ self.old) }
         ensures bounded { map.len self.new ≤ 4096 }
     {
-        if self.states.contains_key(&id) {
+        let Err(place) = search(&self.entries, id) else {
             return Ok(());
-        }
-        if self.states.len() == MOST_IDS {
+        };
+        if self.entries.len() == MOST_IDS {
             return Err(Full);
         }
-        match self.states.insert(id, MediaState::Initial) {
-            Ok(_) => Ok(()),
+        match self.entries.insert(place, (id, MediaState::Initial)) {
+            Ok(()) => Ok(()),
             Err(_) => unreachable!(),
         }
     }
@@ -87,9 +92,9 @@ impl MediaTable {
         requires { map.contains_key self.old id ≡ true }
         ensures { self.new ≡ map.insert self.old id state }
     {
-        match self.states.get_mut(&id) {
-            Some(kept) => *kept = state,
-            None => unreachable!(),
+        match search(&self.entries, id) {
+            Ok(place) => self.entries[place] = (id, state),
+            Err(_) => unreachable!(),
         }
     }
 
@@ -118,11 +123,21 @@ impl MediaTable {
     }
 
     /// Forgets all ids, and keeps the room for them.
+    #[tactic(auto, using(crate::proofs::TableLemmas::view_none))]
     pub fn clear(&mut self)
         ensures { self.new ≡ map.empty }
     {
-        self.states.clear();
+        self.entries.clear();
     }
+}
+
+/// The place of the id's entry, or the one where it would stand.
+fn search(entries: &[(u64, MediaState)], id: u64) -> Result<usize, usize>
+    requires { AreInOrder entries.now }
+    ensures found { IfOk result (StandsAt entries.now id) }
+    ensures gap { IfErr result (HasGapAt entries.now id) }
+{
+    entries.binary_search_by_key(&id, |entry| entry.0)
 }
 
 #[cfg(test)]

@@ -1,51 +1,49 @@
-use Rattle.std.proofs.Common.{◌≡◌, true, false, refl, sym, ◌∙◌, arith}
-use Rattle.media_state.proofs.TableLemmas.{contains-view, len-table, len-view, admitted-kept, admitted-new, len-more}
+use Rattle.std.proofs.Common.{◌≡◌, true, false, refl, sym, ap, ◌∙◌, arith}
+use Rattle.media_state.proofs.TableLemmas.{view, is_kept, is_new, len_table, inserted_order, admitted_kept, admitted_new}
 use Rattle.media_state.proofs.table.MediaTable.admit.Goals as goal
 
-pub returns-then-contains_key-clause-ok : goal.returns-then-contains_key-clause-ok
-returns-then-contains_key-clause-ok c =
-    admitted-kept c.args.self.now c.args.id
-    (contains-view c.self.inside.states.entries c.args.self.now c.args.id c.self.view_is
-    ∙ sym c.contains_key.ensures ∙ c.if-contains_key.true)
+pub returns-in_default-clause-ok : goal.returns-in_default-clause-ok
+returns-in_default-clause-ok c =
+    admitted_kept _ c.self.invariant.2 _ c.self.view_is c.args.id _ (rw c.deref.ensures.value at c.in_default.ensures.found)
 
-pub returns-then-contains_key-clause-full : goal.returns-then-contains_key-clause-full
-returns-then-contains_key-clause-full c =
-    let kept = contains-view c.self.inside.states.entries c.args.self.now c.args.id c.self.view_is
-    ∙ sym c.contains_key.ensures ∙ c.if-contains_key.true in
+pub returns-in_default-clause-full : goal.returns-in_default-clause-full
+returns-in_default-clause-full c =
+    let kept = is_kept _ c.self.invariant.2 _ c.self.view_is c.args.id _ (rw c.deref.ensures.value at c.in_default.ensures.found) in
     (λ lie. absurd (cc), λ full. let lie : true ≡ false = sym kept ∙ full.0 in absurd (cc))
 
-pub returns-then-contains_key-clause-bounded : goal.returns-then-contains_key-clause-bounded
-returns-then-contains_key-clause-bounded c =
-    let len = len-table c.self.inside.states.entries c.args.self.now c.self.view_is c.self.invariant.2 in
-    omega (arith, len, c.self.invariant.0)
+pub returns-in_default-clause-bounded : goal.returns-in_default-clause-bounded
+returns-in_default-clause-bounded c =
+    omega (arith, len_table _ c.self.invariant.2 _ c.self.view_is 0 0, c.self.invariant.0)
 
 pub returns-then-len-eq-MOST_IDS-clause-full : goal.returns-then-len-eq-MOST_IDS-clause-full
 returns-then-len-eq-MOST_IDS-clause-full c =
-    let absent = contains-view c.self.inside.states.entries c.args.self.now c.args.id c.self.view_is
-    ∙ sym c.contains_key.ensures ∙ c.if-contains_key.false in
-    let len = len-table c.self.inside.states.entries c.args.self.now c.self.view_is c.self.invariant.2 in
-    (λ _. (absent, len ∙ sym c.len.ensures.len ∙ c.if-len-eq-MOST_IDS.true), λ _. refl)
+    let new = is_new _ c.self.invariant.2 _ c.self.view_is c.args.id _ (rw c.deref.ensures.value at c.in-Err.ensures.gap) in
+    let len = len_table _ c.self.invariant.2 _ c.self.view_is 0 0 in
+    (λ _. (new, omega (arith, len, c.len.ensures, c.if-len-eq-MOST_IDS.true)), λ _. refl)
 
 pub returns-then-len-eq-MOST_IDS-clause-bounded : goal.returns-then-len-eq-MOST_IDS-clause-bounded
 returns-then-len-eq-MOST_IDS-clause-bounded c =
-    let len = len-table c.self.inside.states.entries c.args.self.now c.self.view_is c.self.invariant.2 in
-    omega (arith, len, c.self.invariant.0)
+    omega (arith, len_table _ c.self.invariant.2 _ c.self.view_is 0 0, c.self.invariant.0)
+
+pub invariant_of-self : goal.invariant_of-self
+invariant_of-self c =
+    let order = inserted_order _ c.self.invariant.2 _ c.self.view_is c.args.id _ _ (rw c.deref.ensures.value at c.in-Err.ensures.gap) in (
+      omega (arith, c.in-Ok.ensures.len, c.self.invariant.0, c.len.ensures, c.if-len-eq-MOST_IDS.false),
+      omega (arith, c.in-Ok.ensures.capacity, c.self.invariant.1),
+      rw c.in-Ok.ensures.items order,
+    )
 
 pub returns-clause-ok : goal.returns-clause-ok
 returns-clause-ok c =
-    let absent = contains-view c.self.inside.states.entries c.args.self.now c.args.id c.self.view_is
-    ∙ sym c.contains_key.ensures ∙ c.if-contains_key.false in
-    admitted-new c.self.inside.states.entries c.insert.new.self.entries c.args.self.now c.args.id c.self.view_is
-    c.in-Ok.ensures.updates.0 absent
+    ap view c.in-Ok.ensures.items
+    ∙ admitted_new _ c.self.invariant.2 _ c.self.view_is c.args.id _ (rw c.deref.ensures.value at c.in-Err.ensures.gap)
 
 pub returns-clause-full : goal.returns-clause-full
 returns-clause-full c =
-    let len = len-table c.self.inside.states.entries c.args.self.now c.self.view_is c.self.invariant.2 in
-    (λ lie. absurd (cc), λ full. absurd (c.if-len-eq-MOST_IDS.false (c.len.ensures.len ∙ sym len ∙ full.1)))
+    let len = len_table _ c.self.invariant.2 _ c.self.view_is 0 0 in
+    (λ lie. absurd (cc), λ full. absurd (c.if-len-eq-MOST_IDS.false (omega (arith, len, c.len.ensures, full.1))))
 
 pub returns-clause-bounded : goal.returns-clause-bounded
 returns-clause-bounded c =
-    let len = len-view c.insert.new.self.entries c.in-Ok.ensures.unique in
-    let most = len-more c.in-Ok.field-0 _ _ c.in-Ok.ensures.len c.self.invariant.0
-    (λ full. c.if-len-eq-MOST_IDS.false (c.len.ensures.len ∙ full)) in
-    omega (arith, len, most)
+    let order = (invariant_of-self c).2 in
+    omega (arith, len_table c.insert.new.self.items order (view c.insert.new.self.items) refl 0 0, (invariant_of-self c).0)

@@ -1,8 +1,11 @@
-use Rattle.std.proofs.Common.{◌∙◌}
-use Rattle.media_state.proofs.TableLemmas.{get-table}
+use Rattle.media_state.proofs.TableLemmas.{get_kept, get_new}
 use Rattle.media_state.proofs.table.MediaTable.look.Goals as goal
 
-pub returns : goal.returns
-returns c =
-    c.copied.ensures ∙ c.get.ensures.value
-    ∙ get-table c.self.inside.states.entries c.args.self.now c.args.id c.self.view_is
+pub returns-in-Ok : goal.returns-in-Ok
+returns-in-Ok c =
+    rw c.index.ensures
+    (get_kept _ c.self.invariant.2 _ c.self.view_is c.args.id _ _ (rw c.deref.ensures.value at c.in-Ok.ensures.found))
+
+pub returns-in-Err : goal.returns-in-Err
+returns-in-Err c =
+    get_new _ c.self.invariant.2 _ c.self.view_is c.args.id _ (rw c.deref.ensures.value at c.in-Err.ensures.gap)
