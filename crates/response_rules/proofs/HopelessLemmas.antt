@@ -10,7 +10,8 @@ use Rattle.response_rules.specs.declared.deciding.Decider.{Decider}
 use Rattle.response_rules.specs.Rules.{is_allowing}
 use Rattle.response_rules.specs.Heads.{Case}
 use Rattle.response_rules.specs.Texts.{is_script}
-use Rattle.response_rules.specs.Tables.{window_size, early_rule, rule_of}
+use Rattle.signatures.specs.Window.{window_size}
+use Rattle.response_rules.specs.Tables.{early_rule, rule_of}
 use Rattle.response_rules.specs.Settled.{is_full, is_some_rule, is_sent, is_blocked, is_in_text, is_hopeless, rule_in_window, head_rule_of}
 use Rattle.std.specs.Option.{option_or}
 use Rattle.response_rules.specs.Reads.{HasRead, is_script_dead}

@@ -9,7 +9,8 @@ use Rattle.response_rules.specs.declared.deciding.Count.{Count}
 use Rattle.response_rules.specs.declared.deciding.Decider.{Decider}
 use Rattle.response_rules.specs.Heads.{Case}
 use Rattle.response_rules.specs.Reads.{HasCounted, Stands}
-use Rattle.response_rules.specs.Tables.{window_size, window_of, early_rule}
+use Rattle.signatures.specs.Window.{window_size, window_of}
+use Rattle.response_rules.specs.Tables.{early_rule}
 use Rattle.response_rules.specs.Settled.{is_full, is_in_text, rule_in_window, settled_rule}
 use Rattle.response_rules.proofs.TableLemmas.{early-halves}
 use Rattle.response_rules.proofs.SettledLemmas.{full_longer, window_longer, settled-short, settled-whole, settled-full}

@@ -8,7 +8,8 @@ use Rattle.response_rules.specs.declared.verdicts.Policy.{Policy}
 use Rattle.response_rules.specs.declared.verdicts.Policy.TheVariants.{Orb, Corb}
 use Rattle.response_rules.specs.Rules.{Part, at_head, at_window, at_end, settled_by, row_of, is_allowing}
 use Rattle.response_rules.specs.Heads.{Case}
-use Rattle.response_rules.specs.Tables.{window_size, head_rows, head_rows_by, orb_head_rows, corb_head_rows, window_rows, window_rows_by, orb_window_rows, corb_window_rows, orb_end_rows, window_of, first_rule, early_rule, rule_of}
+use Rattle.signatures.specs.Window.{window_size, window_of}
+use Rattle.response_rules.specs.Tables.{head_rows, head_rows_by, orb_head_rows, corb_head_rows, window_rows, window_rows_by, orb_window_rows, corb_window_rows, orb_end_rows, first_rule, early_rule, rule_of}
 use Rattle.response_rules.specs.Settled.{is_full, is_there, IsSettled, head_rule_of, rule_in_window, settled_rule, is_some_rule, is_sent, is_blocked, is_in_text}
 use Rattle.response_rules.proofs.TableLemmas.{rule_is_computed, early-halves, early_decides, end_decides}
 

@@ -9,7 +9,8 @@ use Rattle.response_rules.specs.Heads.{Case}
 use Rattle.response_rules.specs.declared.rules.Rule.TheVariants.{Script}
 use Rattle.response_rules.specs.declared.verdicts.Policy.{Policy}
 use Rattle.response_rules.specs.declared.verdicts.Policy.TheVariants.{Orb, Corb}
-use Rattle.response_rules.specs.Tables.{head_rows, window_rows, window_rows_by, corb_window_rows, end_rows, end_rows_by, orb_end_rows, early_rows, rows_of, window_of, IsFirst, IsRule, first_rule, early_rule, rule_of}
+use Rattle.signatures.specs.Window.{window_of}
+use Rattle.response_rules.specs.Tables.{head_rows, window_rows, window_rows_by, corb_window_rows, end_rows, end_rows_by, orb_end_rows, early_rows, rows_of, IsFirst, IsRule, first_rule, early_rule, rule_of}
 use Rattle.response_rules.specs.Settled.{head_rule_of, rule_in_window}
 
 option_map-or : {A B : Type 0} (f : A → B) (a b : Option A)
@@ -56,11 +57,6 @@ first-first_rule ((s, false) ∷ rows) r is =
       table = ap (λ l. (s, false) ∷ l) rest.table;
       first = rest.first;
     }
-
--- the rule of head and window
-pub early_is_computed : (h : Case) (body : List ℕ) (r : Rule) → IsFirst (early_rows h body) r ↔ (early_rule h body ≡ Some r)
-unfolding early_rule
-early_is_computed h body r = (first_rule-first (early_rows h body) r, first-first_rule (early_rows h body) r)
 
 -- by its two halves
 pub early-halves : (h : Case) (body : List ℕ)

@@ -1,5 +1,5 @@
 -- A response that is to be judged, as it is known when its head has been read.
-use Rattle.std.specs.Prelude.{◌≡◌, ℕ, Bool, true, false, not, ◌==◌, List, Option, Some, None, option_and_then, codes, if◌then◌else◌}
+use Rattle.std.specs.Prelude.{◌≡◌, ℕ, Bool, true, false, not, ◌&&◌, ◌==◌, nat_le, List, Option, Some, None, option_and_then, codes, if◌then◌else◌}
 use Rattle.mime_types.specs.Mime.{Mime}
 use Rattle.header_values.specs.Joined.{joined}
 use Rattle.header_values.specs.Extracted.{IsExtracted}
@@ -56,11 +56,23 @@ stated_range fields = option_and_then range_of (joined fields (codes "Content-Ra
 abbrev pub has_first : List (List ℕ × List ℕ) → Bool
 has_first fields = is_first (stated_range fields)
 
--- The complete length of the resource that the response is a part of: the status is 206, Partial Content, and the range
+-- OK (RFC 9110 15.3.1)
+abbrev pub ok : ℕ
+ok = 200
+
+-- Partial Content (RFC 9110 15.3.7)
+abbrev pub partial_content : ℕ
+partial_content = 206
+
+-- an ok status (WHATWG Fetch 2.2.3)
+abbrev pub is_ok_status : ℕ → Bool
+is_ok_status status = nat_le 200 status && nat_le status 299
+
+-- The complete length of the resource that the response is a part of: the status is Partial Content, and the range
 -- has a number as its complete length.
 abbrev pub stated_length : (status : ℕ) → List (List ℕ × List ℕ) → Option ℕ
 stated_length status fields =
-    if status == 206 then option_and_then (λ range. range.complete) (stated_range fields) else None
+    if status == partial_content then option_and_then (λ range. range.complete) (stated_range fields) else None
 
 -- that of the response
 abbrev pub length_of : Case → Option ℕ

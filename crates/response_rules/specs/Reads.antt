@@ -15,7 +15,8 @@ use Rattle.response_rules.specs.declared.deciding.Count.{Count}
 use Rattle.response_rules.specs.declared.deciding.Decider.{Decider}
 use Rattle.response_rules.specs.Rules.{is_allowing, state_after_rule}
 use Rattle.response_rules.specs.Heads.{Case, IsCase, length_of}
-use Rattle.response_rules.specs.Tables.{window_of, rule_of}
+use Rattle.signatures.specs.Window.{window_of}
+use Rattle.response_rules.specs.Tables.{rule_of}
 use Rattle.response_rules.specs.Texts.{is_script, is_json}
 use Rattle.response_rules.specs.Settled.{settled_rule, is_in_text}
 use Rattle.response_rules.specs.Facts.{facts_of}

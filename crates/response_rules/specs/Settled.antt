@@ -4,7 +4,8 @@ use Rattle.std.specs.Option.{option_or}
 use Rattle.response_rules.specs.declared.rules.Rule.{Rule}
 use Rattle.response_rules.specs.Rules.{Part, at_head, at_window, at_end, settled_by, is_allowing}
 use Rattle.response_rules.specs.Heads.{Case}
-use Rattle.response_rules.specs.Tables.{window_size, window_of, head_rows, window_rows, first_rule, IsRule, early_rule}
+use Rattle.signatures.specs.Window.{window_size, window_of}
+use Rattle.response_rules.specs.Tables.{head_rows, window_rows, first_rule, IsRule, early_rule}
 
 -- so many bytes of the body fill the window
 abbrev pub is_full : List ℕ → Bool

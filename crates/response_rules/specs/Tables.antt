@@ -1,26 +1,19 @@
 -- The tables of the rules: what each asks, in the order in which they are asked. Those of Opaque Response Blocking are
 -- after the ORB proposal, those of Cross-Origin Read Blocking after the CORB explainer.
-use Rattle.std.specs.Prelude.{◌≡◌, ℕ, Bool, true, false, not, ◌&&◌, ◌||◌, ◌==◌, nat_le, nat_lt, List, [], ◌∷◌, ◌++◌, length, take, find, Option, is_some, unwrap_or}
+use Rattle.std.specs.Prelude.{◌≡◌, ℕ, Bool, true, false, not, ◌&&◌, ◌||◌, ◌==◌, nat_lt, List, [], ◌∷◌, ◌++◌, length, take, find, Option, is_some, unwrap_or}
 use Rattle.std.specs.List.{list_any}
 use Rattle.std.specs.Option.{option_map}
 use Rattle.mime_types.specs.Sets.{is_safelisted_type, is_never_sniffed_type, is_blocklisted_type, is_plain_text_type, is_html_type, is_xml_type, is_json_type, is_media_type}
 use Rattle.header_values.specs.Questions.{is_nosniff, is_coded}
 use Rattle.signatures.specs.Rows.{image_of, media_of}
+use Rattle.signatures.specs.Window.{window_of}
 use Rattle.corb_sniffers.specs.Values.{has_breaker, sniffs_html, sniffs_xml, sniffs_json}
 use Rattle.response_rules.specs.Texts.{is_script, is_json}
 use Rattle.response_rules.specs.declared.rules.Rule.{Rule}
 use Rattle.response_rules.specs.declared.rules.Rule.TheVariants as rule
 use Rattle.response_rules.specs.declared.verdicts.Policy.{Policy}
 use Rattle.response_rules.specs.declared.verdicts.Policy.TheVariants.{Orb, Corb}
-use Rattle.response_rules.specs.Heads.{Case, is_in, has_first, length_of, is_na, is_initial, is_subsequent, kept_length, is_other_length}
-
--- how many bytes of a body are looked at for its type
-unfoldable pub window_size : ℕ
-window_size = 1024
-
--- these bytes: all of a shorter body
-abbrev pub window_of : List ℕ → List ℕ
-window_of body = take window_size body
+use Rattle.response_rules.specs.Heads.{Case, is_in, has_first, ok, partial_content, is_ok_status, length_of, is_na, is_initial, is_subsequent, kept_length, is_other_length}
 
 -- ---- Opaque Response Blocking
 
@@ -30,7 +23,7 @@ orb_head_rows h =
     (rule.NotOpaque, not h.opaque)
     ∷ (rule.Safelisted, is_in is_safelisted_type h.essence)
     ∷ (rule.NeverSniffed, is_in is_never_sniffed_type h.essence)
-    ∷ (rule.PartialBlocklisted, h.status == 206 && is_in is_blocklisted_type h.essence)
+    ∷ (rule.PartialBlocklisted, h.status == partial_content && is_in is_blocklisted_type h.essence)
     ∷ (
       rule.NosniffBlocklisted,
       is_nosniff h.fields
@@ -38,7 +31,7 @@ orb_head_rows h =
     )
     ∷ (rule.RangeMismatch, is_other_length (kept_length h.state) (length_of h))
     ∷ (rule.Subsequent, is_subsequent h.state)
-    ∷ (rule.BadRange, h.status == 206 && not (has_first h.fields))
+    ∷ (rule.BadRange, h.status == partial_content && not (has_first h.fields))
     ∷ (rule.Coded, is_coded h.fields)
     ∷ []
 
@@ -46,12 +39,12 @@ orb_head_rows h =
 unfoldable pub orb_window_rows : Case → List ℕ → List (Rule × Bool)
 orb_window_rows h window =
     (rule.MediaUnexpected, is_some (media_of window) && not (is_initial h.state))
-    ∷ (rule.MediaStatus, is_some (media_of window) && not (h.status == 200 || h.status == 206))
+    ∷ (rule.MediaStatus, is_some (media_of window) && not (h.status == ok || h.status == partial_content))
     ∷ (rule.Media, is_some (media_of window))
     ∷ (rule.MediaExpected, not (is_na h.state))
     ∷ (rule.Image, is_some (image_of window))
     ∷ (rule.Nosniff, is_nosniff h.fields)
-    ∷ (rule.NotOk, not (nat_le 200 h.status && nat_le h.status 299))
+    ∷ (rule.NotOk, not (is_ok_status h.status))
     ∷ (rule.Untyped, not (is_some h.essence))
     ∷ (rule.TypedMedia, is_in (λ main sub. is_media_type main) h.essence)
     ∷ []
@@ -80,7 +73,7 @@ corb_head_rows h =
     (rule.NotOpaque, not h.opaque)
     ∷ (rule.CorbSafelisted, is_in is_safelisted_type h.essence)
     ∷ (rule.CorbNeverSniffed, is_in is_never_sniffed_type h.essence)
-    ∷ (rule.CorbPartial, h.status == 206 && is_guarded h)
+    ∷ (rule.CorbPartial, h.status == partial_content && is_guarded h)
     ∷ (rule.CorbNosniff, is_nosniff h.fields && is_guarded h)
     ∷ (rule.CorbCoded, is_coded h.fields && is_guarded h)
     ∷ []

@@ -1,7 +1,7 @@
 //! What the rules ask of a response but its body.
 ghost use Rattle.std.specs.Prelude.{◌≡◌, ◌≤◌, ◌==◌, length, None, option_and_then, if◌then◌else◌};
 ghost use Rattle.header_values.specs.Fields.{AreOfHead, pairs_in};
-ghost use Rattle.response_rules.specs.Heads.{stated_range, is_first};
+ghost use Rattle.response_rules.specs.Heads.{stated_range, is_first, partial_content};
 
 use crate::groups::{Groups, read_groups};
 use crate::verdicts::Policy;
@@ -113,7 +113,7 @@ fn is_first(range: Option<ContentRange>) -> bool
 
 /// The number of bytes of the whole that a response with this status and range is a part of, where it states one.
 fn length_in(status: u16, range: Option<ContentRange>) -> Option<u64>
-    ensures { result ≡ (if status == 206 then option_and_then (λ range. range.complete) range else None) }
+    ensures { result ≡ (if status == partial_content then option_and_then (λ range. range.complete) range else None) }
 {
     if status == 206 { range?.complete } else { None }
 }

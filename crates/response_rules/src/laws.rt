@@ -9,7 +9,8 @@ ghost use Rattle.response_rules.specs.declared.deciding.Decider.{Decider};
 ghost use Rattle.response_rules.specs.Rules.{is_allowing};
 ghost use Rattle.response_rules.specs.Heads.{Case, HasOneEssence};
 ghost use Rattle.response_rules.specs.Texts.{is_script, is_json};
-ghost use Rattle.response_rules.specs.Tables.{IsRule, rule_of, window_size};
+ghost use Rattle.signatures.specs.Window.{window_size};
+ghost use Rattle.response_rules.specs.Tables.{IsRule, rule_of};
 ghost use Rattle.response_rules.specs.Settled.{IsSettled, settled_rule, is_sent, is_blocked, is_in_text, is_hopeless};
 ghost use Rattle.response_rules.specs.Reads.{HasRead, script_of, is_script_dead};
 

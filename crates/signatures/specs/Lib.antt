@@ -3,3 +3,4 @@ pub mod Mp4
 pub mod Webm
 pub mod Mpeg
 pub mod Rows
+pub mod Window
