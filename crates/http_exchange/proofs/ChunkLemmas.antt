@@ -4,7 +4,8 @@ use Rattle.std.proofs.lemmas.List.{take-append-le, drop-append-le, append-nil}
 use Rattle.std.proofs.Math.Nat.{div-eq_of_lt, mul-add-div}
 use Rattle.std.proofs.Math.Seq.{take-length, drop-length, drop-nil}
 use Rattle.std.specs.Fmt.{digits}
-use Rattle.http_exchange.specs.Chunks.{chunk_size, crlf, chunk, full_chunks, count_full, rest_of, last_chunk}
+use Rattle.orb_bytes.specs.Ascii.{crlf}
+use Rattle.http_exchange.specs.Chunks.{chunk_size, chunk, full_chunks, count_full, rest_of, last_chunk}
 
 drop_more : (a b : ℕ) (xs : List ℕ) → drop (a + b) xs ≡ drop b (drop a xs)
 drop_more zero b xs = ap (λ n. drop n xs) (omega arith)

@@ -10,3 +10,7 @@ pub mod GatherLemmas
 pub mod ChunkLemmas
 pub mod FramingLaws
 pub mod FramingLemmas
+pub mod HeadTextLemmas
+pub mod HeadTreeLemmas
+pub mod DecimalLemmas
+pub mod ReadingLemmas

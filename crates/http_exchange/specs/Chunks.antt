@@ -1,15 +1,12 @@
 -- A body as it goes out in chunks (RFC 9112 7.1): chunks of 1,024 bytes, a last one of the rest where there
 -- is a rest, and the last chunk, which is empty.
-use Rattle.std.specs.Prelude.{ℕ, zero, suc, ◌*◌, ◌/◌, Bool, false, List, [], ◌∷◌, ◌++◌, length, take, drop, if◌then◌else◌}
+use Rattle.std.specs.Prelude.{ℕ, zero, suc, ◌*◌, ◌/◌, Bool, false, List, [], ◌∷◌, ◌++◌, length, take, drop, if◌then◌else◌, codes}
 use Rattle.std.specs.Fmt.{digits}
+use Rattle.orb_bytes.specs.Ascii.{crlf}
 
 -- how many bytes a chunk has, but for the one of the rest
 unfoldable pub chunk_size : ℕ
 chunk_size = 1024
-
--- the end of a line
-abbrev pub crlf : List ℕ
-crlf = 13 ∷ 10 ∷ []
 
 -- a chunk: its size in small hexadecimal digits, and the bytes, each followed by the end of a line
 unfoldable pub chunk : List ℕ → List ℕ
@@ -35,7 +32,7 @@ rest_chunk (b ∷ bytes) = chunk (b ∷ bytes)
 
 -- the last chunk, and no trailers
 abbrev pub last_chunk : List ℕ
-last_chunk = 48 ∷ (crlf ++ crlf)
+last_chunk = codes "0" ++ (crlf ++ crlf)
 
 -- what goes out of a body of which these bytes have come
 unfoldable pub body_so_far : (chunked : Bool) → List ℕ → List ℕ

@@ -44,9 +44,17 @@ framed (Some coding) length =
 abbrev pub is_interim : ℕ → Bool
 is_interim status = nat_le 100 status && nat_le status 199
 
--- the response to HEAD, and one with the status 204 or 304, has no body whatever its fields say
+-- No Content (RFC 9110 15.3.5)
+abbrev pub no_content : ℕ
+no_content = 204
+
+-- Not Modified (RFC 9110 15.4.5)
+abbrev pub not_modified : ℕ
+not_modified = 304
+
+-- the response to HEAD, and one with one of these two statuses, has no body whatever its fields say
 abbrev pub has_no_body : (to_head : Bool) (status : ℕ) → Bool
-has_no_body to_head status = to_head || (status == 204 || status == 304)
+has_no_body to_head status = to_head || (status == no_content || status == not_modified)
 
 -- the frame of the body of a response; the first refusal that holds
 unfoldable pub frame_of : (to_head : Bool) (status : ℕ) → List (List ℕ × List ℕ) → Result BodyFrame BadKind

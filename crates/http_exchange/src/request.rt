@@ -8,7 +8,7 @@ ghost use Rattle.http_exchange.specs.Parts.{ArePartsOf};
 ghost use Rattle.http_exchange.specs.Reading.{ReadsRequestHead};
 
 use crate::refusals::BadKind;
-use crate::spans::request_fields;
+use crate::spans::{FEW_FIELDS, few_request_fields, request_fields};
 use crate::values::{has_field, has_other, has_value};
 use arrayvec::ArrayVec;
 use header_values::{FieldSpan, Fields, Scratch};
@@ -66,6 +66,26 @@ pub fn request_parts<'a>(
 /// ([`BadKind::RequestBody`]); an Orb-Media that is no decimal number of 1 to 19 digits
 /// ([`BadKind::BadMediaId`]).
 pub fn read_request(head: &[u8], scratch: &mut Scratch) -> Result<RequestHead, BadKind>
+    requires { length head.now ≤ scratch.old }
+    ensures reads { ReadsRequestHead head.now result }
+    ensures kept { scratch.new ≡ scratch.old }
+{
+    let mut spans: ArrayVec<FieldSpan, FEW_FIELDS> = ArrayVec::new();
+    match few_request_fields(head, &mut spans) {
+        Some(line) => {
+            let fields = Fields {
+                head,
+                spans: spans.as_slice(),
+            };
+            judged(line.method == b"HEAD".as_slice(), &fields, scratch)
+        }
+        None => read_any_request(head, scratch),
+    }
+}
+
+/// The same, with room for as many fields as a head may have.
+#[inline(never)]
+fn read_any_request(head: &[u8], scratch: &mut Scratch) -> Result<RequestHead, BadKind>
     requires { length head.now ≤ scratch.old }
     ensures reads { ReadsRequestHead head.now result }
     ensures kept { scratch.new ≡ scratch.old }
@@ -151,7 +171,11 @@ fn is_for_media(fields: &Fields, scratch: &mut Scratch) -> bool
     ensures value { result ≡ is_for_media_of (pairs_in fields.now) }
     ensures kept { scratch.new ≡ scratch.old }
 {
-    let audio = has_value(fields, b"Sec-Fetch-Dest", b"audio", scratch);
-    let video = has_value(fields, b"Sec-Fetch-Dest", b"video", scratch);
-    audio || video
+    match scratch.join(fields, b"Sec-Fetch-Dest") {
+        Some(joined) => {
+            let destination = trim_http_ws(joined);
+            destination == b"audio".as_slice() || destination == b"video".as_slice()
+        }
+        None => false,
+    }
 }

@@ -80,8 +80,28 @@ fn frame_of(
     if to_head || status == 204 || status == 304 {
         return Ok(BodyFrame::Empty);
     }
-    let stated = length_stated(fields, scratch);
-    coded_or(stated, fields, scratch)
+    stated_frame(fields, scratch)
+}
+
+/// The frame of a body that may be there.
+fn stated_frame(fields: &Fields, scratch: &mut Scratch) -> Result<BodyFrame, BadKind>
+    requires fields { AreOfHead fields.now }
+    requires room { length fields.now.head.now ≤ scratch.old }
+    ensures value { result ≡ framed (value_of (pairs_in fields.now) (codes "Transfer-Encoding"))
+        (joined (pairs_in fields.now) (codes "Content-Length")) }
+    ensures kept { scratch.new ≡ scratch.old }
+{
+    match scratch.join(fields, b"Transfer-Encoding") {
+        None => length_stated(fields, scratch),
+        Some(coding) => {
+            let chunked = eq_ignore_case(trim_http_ws(coding), b"chunked");
+            if chunked && !has_field(fields, b"Content-Length", scratch) {
+                Ok(BodyFrame::Chunked)
+            } else {
+                Err(BadKind::BadFraming)
+            }
+        }
+    }
 }
 
 /// The frame that a Content-Length states; without one the body runs to the end of the input.
@@ -137,28 +157,5 @@ fn writes_number(text: &[u8], number: u64) -> bool
     match read_decimal(text) {
         Some(n) => n == number,
         None => false,
-    }
-}
-
-/// The frame that a Transfer-Encoding states beside that of the length; without one the latter.
-fn coded_or(
-    stated: Result<BodyFrame, BadKind>,
-    fields: &Fields,
-    scratch: &mut Scratch,
-) -> Result<BodyFrame, BadKind>
-    requires fields { AreOfHead fields.now }
-    requires room { length fields.now.head.now ≤ scratch.old }
-    requires stated { stated ≡ sized (joined (pairs_in fields.now) (codes "Content-Length")) }
-    ensures value { result ≡ framed (value_of (pairs_in fields.now) (codes "Transfer-Encoding"))
-        (joined (pairs_in fields.now) (codes "Content-Length")) }
-    ensures kept { scratch.new ≡ scratch.old }
-{
-    let has_length = has_field(fields, b"Content-Length", scratch);
-    match scratch.join(fields, b"Transfer-Encoding") {
-        None => stated,
-        Some(coding) if eq_ignore_case(trim_http_ws(coding), b"chunked") && !has_length => {
-            Ok(BodyFrame::Chunked)
-        }
-        Some(_) => Err(BadKind::BadFraming),
     }
 }

@@ -14,7 +14,7 @@ use httparse::spans::{EMPTY_HEADER_SPAN, HeaderSpan, parse_request, parse_respon
 const MOST_FIELDS: usize = 128;
 
 /// Room for the fields of most heads, which is tried first: to clear room for all costs more than to read most heads.
-const FEW_FIELDS: usize = 32;
+pub(crate) const FEW_FIELDS: usize = 32;
 
 /// What a request line asks for (RFC 9112 3).
 #[derive(Clone, Copy, Debug)]
@@ -42,13 +42,25 @@ pub(crate) fn request_fields<'a>(
     }
 }
 
+/// The same of a head with few fields; of one with more it may be `None`.
+pub(crate) fn few_request_fields<'a>(
+    head: &'a [u8],
+    spans: &mut ArrayVec<FieldSpan, FEW_FIELDS>,
+) -> Option<RequestLine<'a>>
+    ensures found { IfSome result (λ line. (h : RequestHead) × IsRequest head.now h
+        × IsLineOf h line × HasFields head.now spans.new.items h.fields) }
+{
+    request_within(head, &mut [EMPTY_HEADER_SPAN; FEW_FIELDS], spans)
+}
+
 /// The same, with room for as many fields as `found` is long.
-fn request_within<'a>(
+fn request_within<'a, const ROOM: usize>(
     head: &'a [u8],
     found: &mut [HeaderSpan],
-    spans: &mut ArrayVec<FieldSpan, 128>,
+    spans: &mut ArrayVec<FieldSpan, ROOM>,
 ) -> Option<RequestLine<'a>>
-    requires { length found.old ≤ 128 }
+    requires few { length found.old ≤ 128 }
+    requires room { length found.old ≤ ROOM }
     ensures found { IfSome result (λ line. (h : RequestHead) × IsRequest head.now h
         × IsLineOf h line × HasFields head.now spans.new.items h.fields) }
     ensures none { IfNone result (128 ≤ length found.old → (h : RequestHead) → ¬ (IsRequest head.now h)) }
@@ -104,8 +116,8 @@ fn response_within(
 }
 
 /// Puts these spans in the place of what was there.
-fn keep(found: &[HeaderSpan], spans: &mut ArrayVec<FieldSpan, 128>)
-    requires { length found.now ≤ 128 }
+fn keep<const ROOM: usize>(found: &[HeaderSpan], spans: &mut ArrayVec<FieldSpan, ROOM>)
+    requires { length found.now ≤ ROOM }
     ensures { spans.new.items ≡ map field_span found.now }
 {
     spans.clear();

@@ -11,7 +11,7 @@ use Rattle.http_exchange.specs.declared.frames.BodyFrame.{BodyFrame}
 use Rattle.http_exchange.specs.declared.frames.BodyFrame.TheVariants.{Length, Chunked}
 use Rattle.orb_engine.specs.declared.settings.Settings.{Settings}
 use Rattle.exchanges.specs.Heads as heads
-use Rattle.exchanges.specs.Heads.{RequestText, ResponseText, Heads, IsRequestHead, IsRequestIn, AreHeads}
+use Rattle.exchanges.specs.Heads.{RequestText, ResponseText, Heads, IsRequestHead, AreHeads}
 use Rattle.orb_engine.specs.Judged.{judged_by}
 use Rattle.orb_engine.specs.Recording.{Exchange, IsExchange, spell_exchange, table_after, state_after}
 use Rattle.trial.specs.declared.kinds.Kind.{Kind}
@@ -21,7 +21,8 @@ use Rattle.trial.specs.Trials.{request_line, request_of, status_line, fields_of,
 use Rattle.trial.proofs.Requests.{plain_asks, media_asks, plain_is_request, media_is_request}
 use Rattle.trial.proofs.ResponseKinds as responses
 use Rattle.trial.proofs.ResponseKinds.{ok, partial}
-use Rattle.trial.proofs.Responses.{StatusLine, line_text, Says, text_of, IsResponseHead-text}
+use Rattle.http_exchange.proofs.HeadTreeLemmas.{StatusLine, line_text}
+use Rattle.trial.proofs.Responses.{Says, text_of, IsResponseHead-text}
 use Rattle.trial.proofs.ChunkLemmas.{sent_is_whole, sent_is_prefix, sent_length}
 use Rattle.trial.proofs.TableLemmas.{IsSmall, small_has_room, keeps_is_small}
 

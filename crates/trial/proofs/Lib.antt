@@ -1,4 +1,3 @@
-pub mod Decimals
 pub mod HeadLemmas
 pub mod Requests
 pub mod Responses

@@ -1,15 +1,7 @@
 -- The heads of the requests: trees of the grammar, and what they ask for.
-use Rattle.std.proofs.Common.{◌≡◌, ℕ, ◌<◌, ◌≤◌, ◌^◌, true, false, List, [], ◌++◌, length, get_or, Some, None, Ok, refl, sym, ap, ◌∙◌, arith, append-nil, inr, codes, decimal}
-use Rattle.std.proofs.lemmas.List.Sums.{AllPass-from_list_all}
-use Rattle.std.proofs.lemmas.List.{length-map}
-use Rattle.std.proofs.lemmas.Str.{IsUtf8-from_ascii}
-use Rattle.std.proofs.lemmas.Str.Ascii.{IsAscii-cons, IsAscii-nil}
+use Rattle.std.proofs.Common.{◌≡◌, ℕ, ◌<◌, ◌≤◌, ◌^◌, true, false, List, length, Some, None, Ok, refl, sym, ap, ◌∙◌, arith, inr, codes, decimal}
 use Rattle.std.proofs.lemmas.Fmt.{length-decimal-le}
-use Rattle.httparse.specs.Grammar as grammar
-use Rattle.httparse.specs.Grammar.{is_token_byte, is_uri_byte, print_request, trim_ows}
-use Rattle.orb_bytes.specs.Ascii.{space}
-use Rattle.orb_bytes.specs.Ascii as ascii
-use Rattle.http_exchange.specs.Heads.{IsRequest}
+use Rattle.httparse.specs.Grammar.{is_token_byte, trim_ows}
 use Rattle.http_exchange.specs.HeadTexts.{head_limit}
 use Rattle.http_exchange.specs.RequestFields as asks
 use Rattle.http_exchange.specs.RequestFields.{value_of, has_body, is_opaque, is_for_media}
@@ -17,41 +9,14 @@ use Rattle.http_exchange.specs.declared.request.RequestHead.{RequestHead}
 use Rattle.exchanges.specs.Heads.{IsRequestHead}
 use Rattle.http_exchange.specs.Messages.{head_text}
 use Rattle.trial.specs.Trials.{request_line, plain_request, media_request}
-use Rattle.trial.proofs.Decimals.{trimmed-decimal, decimal_of-decimal, decimal-value, trim_ows-decimal}
-use Rattle.trial.proofs.HeadLemmas.{IsPlain, ArePlain, tree_of, trees_of, print_section-trees, pairs-trees, AreFields-trees, head_ends, length-last}
+use Rattle.http_exchange.proofs.DecimalLemmas.{trimmed-decimal, decimal_of-decimal, decimal-value, trim_ows-decimal}
+use Rattle.http_exchange.proofs.HeadTextLemmas.{head_ends}
+use Rattle.http_exchange.proofs.HeadTreeLemmas.{IsMethod, request_tree, IsRequest-tree}
+use Rattle.trial.proofs.HeadLemmas.{IsPlain, ArePlain, written, read_plain, length-last}
 
--- the tree of a head with these fields
-abbrev pub request_tree : List (List ℕ × List ℕ) → grammar.RequestHead
-request_tree fields = record {
-  blank = [];
-  method = codes "GET";
-  target = codes "/";
-  minor = 1;
-  line_end = grammar.crlf;
-  fields = trees_of fields;
-  last = grammar.crlf;
-}
-
-print-request : (fields : List (List ℕ × List ℕ)) → print_request (request_tree fields) ≡ head_text request_line fields
-unfolding print_request
-print-request fields = ap (λ l. codes "GET / HTTP/1.1" ++ (ascii.crlf ++ l)) (print_section-trees fields)
-
-is_request_tree : (fields : List (List ℕ × List ℕ)) → ArePlain fields → grammar.IsRequestHead (request_tree fields)
+get_is_method : IsMethod (codes "GET")
 unfolding is_token_byte
-is_request_tree fields plain = record {
-  method = (omega arith, AllPass-from_list_all is_token_byte (codes "GET") refl);
-  target = (omega arith, AllPass-from_list_all is_uri_byte (codes "/") refl);
-  target_text = IsUtf8-from_ascii (codes "/") (IsAscii-cons (get_or (codes "/") 0 0) [] (omega arith) IsAscii-nil);
-  minor = omega arith;
-  fields = AreFields-trees fields plain;
-}
-
-IsRequest-tree : (fields : List (List ℕ × List ℕ)) → ArePlain fields → length fields ≤ 128
-    → IsRequest (head_text request_line fields) (request_tree fields)
-IsRequest-tree fields plain few = (
-  (is_request_tree fields plain, sym (append-nil (print_request (request_tree fields)) ∙ print-request fields)),
-  omega (arith, length-map fields tree_of),
-)
+get_is_method = record { some = omega arith; token = refl }
 
 -- a head that asks for this
 pub IsRequestHead-text : (fields : List (List ℕ × List ℕ)) (asked : RequestHead) → ArePlain fields → length fields ≤ 128
@@ -59,11 +24,11 @@ pub IsRequestHead-text : (fields : List (List ℕ × List ℕ)) (asked : Request
     → IsRequestHead (record { bytes = head_text request_line fields; asks = asked })
 unfolding head_limit
 IsRequestHead-text fields asked plain few fits says = record {
-  text = record { ends = head_ends request_line fields refl plain; fits = fits };
+  text = record { ends = head_ends request_line fields refl (written fields plain); fits = fits };
   reads = inr (
-    request_tree fields,
-    IsRequest-tree fields plain few,
-    sym says ∙ ap (asks.request_of false) (sym (pairs-trees fields plain)),
+    request_tree (codes "GET") fields,
+    IsRequest-tree (codes "GET") fields get_is_method (written fields plain) few,
+    sym says ∙ ap (asks.request_of false) (sym (read_plain fields plain)),
   );
 }
 
@@ -83,13 +48,13 @@ plain-destination : IsPlain (codes "Sec-Fetch-Dest", codes "video")
 unfolding is_token_byte trim_ows
 plain-destination = record { some = omega arith; name = refl; value = refl; bare = refl }
 
-plain-id : (id : ℕ) → id < 2 ^ 64 → IsPlain (codes "Orb-Media", decimal id)
+plain-id : (id : ℕ) → IsPlain (codes "Orb-Media", decimal id)
 unfolding is_token_byte
-plain-id id small = record {
+plain-id id = record {
   some = omega arith;
   name = refl;
-  value = decimal-value id small;
-  bare = trim_ows-decimal id small;
+  value = decimal-value id;
+  bare = trim_ows-decimal id;
 }
 
 pub plain_says : asks.request_of false plain_request ≡ Ok plain_asks
@@ -99,7 +64,7 @@ plain_says = refl
 pub media_says : (id : ℕ) → id < 10 ^ 19 → asks.request_of false (media_request id) ≡ Ok (media_asks id)
 unfolding asks.request_of has_body is_opaque is_for_media
 media_says id small =
-    let found : value_of (media_request id) (codes "Orb-Media") ≡ Some (decimal id) = ap Some (trimmed-decimal id (omega arith)) in
+    let found : value_of (media_request id) (codes "Orb-Media") ≡ Some (decimal id) = ap Some (trimmed-decimal id) in
     let read : asks.id_of (Some (decimal id)) ≡ Ok (Some id) = rw (decimal_of-decimal id small) refl in
     ap (λ v. asks.with_id false (media_request id) (asks.id_of v)) found ∙ ap (asks.with_id false (media_request id)) read
 
@@ -111,7 +76,7 @@ pub media_is_request : (id : ℕ) → id < 16
     → IsRequestHead (record { bytes = head_text request_line (media_request id); asks = media_asks id })
 media_is_request id small =
     IsRequestHead-text (media_request id) (media_asks id)
-    (plain-mode, (plain-destination, (plain-id id (omega arith), tt)))
+    (plain-mode, (plain-destination, (plain-id id, tt)))
     (omega arith)
     (omega (arith, length-decimal-le 2 id, length-last (decimal id)))
     (media_says id (omega arith))

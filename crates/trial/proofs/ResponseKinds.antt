@@ -17,9 +17,10 @@ use Rattle.http_exchange.specs.declared.frames.BodyFrame.TheVariants.{Length, Ch
 use Rattle.trial.specs.declared.kinds.Kind.TheVariants.{Javascript, Nosniff, Png, Script, Json, Text, Jpeg, Media}
 use Rattle.http_exchange.specs.Messages.{field_line, head_text}
 use Rattle.trial.specs.Trials.{fields_of, whole_range}
-use Rattle.trial.proofs.Decimals.{decimal_of-decimal, decimal-value, decimal-digits, trim_ows-decimal, trim_ows-digits, parts_of-decimal}
+use Rattle.http_exchange.proofs.DecimalLemmas.{decimal_of-decimal, decimal-value, decimal-digits, trim_ows-decimal, trim_ows-digits, parts_of-decimal}
 use Rattle.trial.proofs.HeadLemmas.{IsPlain, length-last}
-use Rattle.trial.proofs.Responses.{StatusLine, line_text, IsStatusLine, Says}
+use Rattle.http_exchange.proofs.HeadTreeLemmas.{StatusLine, line_text, IsStatusLine}
+use Rattle.trial.proofs.Responses.{Says}
 
 -- ---- status lines
 
@@ -42,13 +43,13 @@ plain-type : (text : List ℕ) → list_all is_value_byte text ≡ true → trim
 unfolding is_token_byte
 plain-type text value bare = record { some = omega arith; name = refl; value = value; bare = bare }
 
-plain-length : (n : ℕ) → n < 2 ^ 64 → IsPlain (codes "Content-Length", decimal n)
+plain-length : (n : ℕ) → IsPlain (codes "Content-Length", decimal n)
 unfolding is_token_byte
-plain-length n small = record {
+plain-length n = record {
   some = omega arith;
   name = refl;
-  value = decimal-value n small;
-  bare = trim_ows-decimal n small;
+  value = decimal-value n;
+  bare = trim_ows-decimal n;
 }
 
 plain-nosniff : IsPlain (codes "X-Content-Type-Options", codes "nosniff")
@@ -67,22 +68,22 @@ range_cut : (n : ℕ) → whole_range n ≡ range_start n ++ decimal n
 unfolding range_start
 range_cut n = ap (λ l. codes "bytes 0-" ++ l) (sym (append_assoc (decimal (n - 1)) (solidus ∷ []) (decimal n)))
 
-range-value : (n : ℕ) → n < 2 ^ 64 → list_all is_value_byte (whole_range n) ≡ true
-range-value n small =
+range-value : (n : ℕ) → list_all is_value_byte (whole_range n) ≡ true
+range-value n =
     rw (
       list_all-append is_value_byte (decimal (n - 1)) (solidus ∷ decimal n),
-      decimal-value (n - 1) (omega arith),
-      decimal-value n small,
+      decimal-value (n - 1),
+      decimal-value n,
     ) refl
 
-plain-range : (n : ℕ) → n < 2 ^ 64 → IsPlain (codes "Content-Range", whole_range n)
+plain-range : (n : ℕ) → IsPlain (codes "Content-Range", whole_range n)
 unfolding is_token_byte range_start
-plain-range n small =
+plain-range n =
     let cut = range_cut n in
-    let bare = trim_ows-digits (range_start n) (decimal n) refl (decimal-digits n small) in record {
+    let bare = trim_ows-digits (range_start n) (decimal n) refl (decimal-digits n) in record {
       some = omega arith;
       name = refl;
-      value = range-value n small;
+      value = range-value n;
       bare = subst (λ l. trim_ows (space ∷ l) ≡ l) (sym cut) bare;
     }
 
@@ -90,7 +91,7 @@ plain-range n small =
 
 -- a status that may have a body, no Transfer-Encoding, and one Content-Length
 sized_is : (n : ℕ) → n < 10 ^ 19 → sized (Some (decimal n)) ≡ Ok (Length n)
-sized_is n small = rw (parts_of-decimal n (omega arith), decimal_of-decimal n small) refl
+sized_is n small = rw (parts_of-decimal n, decimal_of-decimal n small) refl
 
 -- ---- essences
 
@@ -120,7 +121,7 @@ pub javascript_says : (n : ℕ) → n < 10000 → Says ok (fields_of Javascript 
 unfolding frame_of parts_of extracted_of trim_ows
 javascript_says n small = record {
   is_line = ok_is_line;
-  plain = (plain-type (codes "text/javascript") refl refl, (plain-length n (omega arith), tt));
+  plain = (plain-type (codes "text/javascript") refl refl, (plain-length n, tt));
   few = omega arith;
   fits = omega (arith, length-decimal-le 5 n, length-last (decimal n));
   frame_is = sized_is n (omega arith);
@@ -134,7 +135,7 @@ pub nosniff_says : (n : ℕ) → n < 10000 → Says ok (fields_of Nosniff n) (So
 unfolding frame_of parts_of extracted_of trim_ows
 nosniff_says n small = record {
   is_line = ok_is_line;
-  plain = (plain-type (codes "text/html") refl refl, (plain-nosniff, (plain-length n (omega arith), tt)));
+  plain = (plain-type (codes "text/html") refl refl, (plain-nosniff, (plain-length n, tt)));
   few = omega arith;
   fits = omega (arith, length-decimal-le 5 n, length-last (decimal n));
   frame_is = sized_is n (omega arith);
@@ -148,7 +149,7 @@ pub script_says : (n : ℕ) → n < 10000 → Says ok (fields_of Script n) (Some
 unfolding frame_of parts_of extracted_of trim_ows
 script_says n small = record {
   is_line = ok_is_line;
-  plain = (plain-type (codes "application/octet-stream") refl refl, (plain-length n (omega arith), tt));
+  plain = (plain-type (codes "application/octet-stream") refl refl, (plain-length n, tt));
   few = omega arith;
   fits = omega (arith, length-decimal-le 5 n, length-last (decimal n));
   frame_is = sized_is n (omega arith);
@@ -162,7 +163,7 @@ pub json_says : (n : ℕ) → n < 10000 → Says ok (fields_of Json n) (Some (co
 unfolding frame_of parts_of extracted_of trim_ows
 json_says n small = record {
   is_line = ok_is_line;
-  plain = (plain-type (codes "application/octet-stream") refl refl, (plain-length n (omega arith), tt));
+  plain = (plain-type (codes "application/octet-stream") refl refl, (plain-length n, tt));
   few = omega arith;
   fits = omega (arith, length-decimal-le 5 n, length-last (decimal n));
   frame_is = sized_is n (omega arith);
@@ -176,7 +177,7 @@ pub text_says : (n : ℕ) → n < 10000 → Says ok (fields_of Text n) (Some (co
 unfolding frame_of parts_of extracted_of trim_ows
 text_says n small = record {
   is_line = ok_is_line;
-  plain = (plain-type (codes "text/plain") refl refl, (plain-length n (omega arith), tt));
+  plain = (plain-type (codes "text/plain") refl refl, (plain-length n, tt));
   few = omega arith;
   fits = omega (arith, length-decimal-le 5 n, length-last (decimal n));
   frame_is = sized_is n (omega arith);
@@ -220,7 +221,7 @@ pub media_says : (n : ℕ) → n < 10000 → Says partial (fields_of Media n) (S
 unfolding frame_of parts_of extracted_of trim_ows
 media_says n small = record {
   is_line = partial_is_line;
-  plain = (plain-type (codes "video/ogg") refl refl, (plain-range n (omega arith), (plain-length n (omega arith), tt)));
+  plain = (plain-type (codes "video/ogg") refl refl, (plain-range n, (plain-length n, tt)));
   few = omega arith;
   fits = range_fits n small;
   frame_is = sized_is n (omega arith);
@@ -234,7 +235,7 @@ pub png_says : (n : ℕ) → n < 10000 → Says ok (fields_of Png n) None (Lengt
 unfolding frame_of extracted_of
 png_says n small = record {
   is_line = ok_is_line;
-  plain = (plain-length n (omega arith), tt);
+  plain = (plain-length n, tt);
   few = omega arith;
   fits = omega (arith, length-decimal-le 5 n, length-last (decimal n));
   frame_is = sized_is n (omega arith);

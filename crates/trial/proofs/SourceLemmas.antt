@@ -5,7 +5,7 @@ use Rattle.trial.specs.Trials.{numbered_text, trial_of}
 use Rattle.std.specs.Fmt.{digits}
 use Rattle.std.specs.List.{repeat}
 use Rattle.orb_bytes.specs.Ascii.{crlf}
-use Rattle.http_exchange.specs.Chunks.{chunk, rest_chunk, last_chunk}
+use Rattle.http_exchange.specs.Chunks.{chunk}
 use Rattle.trial.specs.Texts.{in_chunks, chunked_text}
 
 -- a chunk after a text
@@ -24,9 +24,6 @@ pub chunks_step : (left : List ℕ) → 100 ≤ length left
 chunks_step left full =
     let count : length left / 100 ≡ suc (length (drop 100 left) / 100) = omega (arith, length-drop 100 left) in
     ap (λ n. in_chunks 100 n left) count
-
-pub chunks_end : (left : List ℕ) → length left < 100 → chunked_text 100 left ≡ rest_chunk left ++ last_chunk
-chunks_end left short = let none : length left / 100 ≡ 0 = omega arith in ap (λ n. in_chunks 100 n left) none
 
 -- one unit more
 pub repeat_more : (count : ℕ) (unit : List ℕ) → repeat count unit ++ unit ≡ repeat (suc count) unit

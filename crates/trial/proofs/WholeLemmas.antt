@@ -8,7 +8,6 @@ use Rattle.orb_engine.specs.declared.settings.Settings.{Settings}
 use Rattle.orb_engine.specs.Ends.{stop_of}
 use Rattle.orb_engine.specs.Recording as cut
 use Rattle.orb_engine.specs.Recording.{Exchange, Recording, IsRecording, AreExchanges, table_after, spell_exchange, spell_exchanges}
-use Rattle.orb_engine.specs.Runs.{run_limit}
 use Rattle.trial.specs.Trials.{kind_of, size_of, id_of, numbered_text, trial_of}
 use Rattle.trial.specs.Recorded.{IsRecorded}
 use Rattle.trial.proofs.TableLemmas.{IsSmall, empty_is_small}
@@ -77,7 +76,7 @@ is_recording s seed count = record {
 }
 
 pub is_recorded : (s : Settings) (seed count : ℕ) → count ≤ 1000000 → IsRecorded s seed count
-unfolding stop_of run_limit
+unfolding stop_of
 is_recorded s seed count few = record {
   recording = recording_of s seed count;
   whole = record {

@@ -39,43 +39,45 @@ fn length_of(source: &mut TrialSource) -> u64 {
     length
 }
 
+/// The number of an exchange of each kind, and its bytes.
+const KINDS: [(u64, &[u8]); 8] = [
+    (
+        0,
+        b"GET / HTTP/1.1\r\nSec-Fetch-Mode: no-cors\r\n\r\nHTTP/1.1 200 OK\r\nContent-Type: text/javascript\r\nContent-Length: 2\r\n\r\nx;",
+    ),
+    (
+        1,
+        b"GET / HTTP/1.1\r\nSec-Fetch-Mode: no-cors\r\n\r\nHTTP/1.1 200 OK\r\nContent-Type: text/html\r\nX-Content-Type-Options: nosniff\r\nContent-Length: 2\r\n\r\naa",
+    ),
+    (
+        2,
+        b"GET / HTTP/1.1\r\nSec-Fetch-Mode: no-cors\r\n\r\nHTTP/1.1 200 OK\r\nContent-Length: 10\r\n\r\n\x89PNG\r\n\x1A\n\0\0",
+    ),
+    (
+        3,
+        b"GET / HTTP/1.1\r\nSec-Fetch-Mode: no-cors\r\n\r\nHTTP/1.1 200 OK\r\nContent-Type: application/octet-stream\r\nContent-Length: 32\r\n\r\nvar a=0;var a=0;var a=0;var a=0;",
+    ),
+    (
+        4,
+        b"GET / HTTP/1.1\r\nSec-Fetch-Mode: no-cors\r\n\r\nHTTP/1.1 200 OK\r\nContent-Type: application/octet-stream\r\nContent-Length: 11\r\n\r\n[0,0,0,0,0]",
+    ),
+    (
+        5,
+        b"GET / HTTP/1.1\r\nSec-Fetch-Mode: no-cors\r\n\r\nHTTP/1.1 200 OK\r\nContent-Type: text/plain\r\nContent-Length: 24\r\n\r\na b a b a b a b a b a b ",
+    ),
+    (
+        6,
+        b"GET / HTTP/1.1\r\nSec-Fetch-Mode: no-cors\r\n\r\nHTTP/1.1 200 OK\r\nContent-Type: image/jpeg\r\nTransfer-Encoding: chunked\r\n\r\n9\r\n\xFF\xD8\xFF\0\0\0\0\0\0\r\n0\r\n\r\n",
+    ),
+    (
+        1015,
+        b"GET / HTTP/1.1\r\nSec-Fetch-Mode: no-cors\r\nSec-Fetch-Dest: video\r\nOrb-Media: 14\r\n\r\nHTTP/1.1 206 Partial Content\r\nContent-Type: video/ogg\r\nContent-Range: bytes 0-10/11\r\nContent-Length: 11\r\n\r\nOggS\0\0\0\0\0\0\0",
+    ),
+];
+
 #[test]
 fn each_kind_as_it_is_sent(rt: HostRuntime) {
-    let rows: [(u64, &[u8]); 8] = [
-        (
-            0,
-            b"GET / HTTP/1.1\r\nSec-Fetch-Mode: no-cors\r\n\r\nHTTP/1.1 200 OK\r\nContent-Type: text/javascript\r\nContent-Length: 2\r\n\r\nx;",
-        ),
-        (
-            1,
-            b"GET / HTTP/1.1\r\nSec-Fetch-Mode: no-cors\r\n\r\nHTTP/1.1 200 OK\r\nContent-Type: text/html\r\nX-Content-Type-Options: nosniff\r\nContent-Length: 2\r\n\r\naa",
-        ),
-        (
-            2,
-            b"GET / HTTP/1.1\r\nSec-Fetch-Mode: no-cors\r\n\r\nHTTP/1.1 200 OK\r\nContent-Length: 10\r\n\r\n\x89PNG\r\n\x1A\n\0\0",
-        ),
-        (
-            3,
-            b"GET / HTTP/1.1\r\nSec-Fetch-Mode: no-cors\r\n\r\nHTTP/1.1 200 OK\r\nContent-Type: application/octet-stream\r\nContent-Length: 32\r\n\r\nvar a=0;var a=0;var a=0;var a=0;",
-        ),
-        (
-            4,
-            b"GET / HTTP/1.1\r\nSec-Fetch-Mode: no-cors\r\n\r\nHTTP/1.1 200 OK\r\nContent-Type: application/octet-stream\r\nContent-Length: 11\r\n\r\n[0,0,0,0,0]",
-        ),
-        (
-            5,
-            b"GET / HTTP/1.1\r\nSec-Fetch-Mode: no-cors\r\n\r\nHTTP/1.1 200 OK\r\nContent-Type: text/plain\r\nContent-Length: 24\r\n\r\na b a b a b a b a b a b ",
-        ),
-        (
-            6,
-            b"GET / HTTP/1.1\r\nSec-Fetch-Mode: no-cors\r\n\r\nHTTP/1.1 200 OK\r\nContent-Type: image/jpeg\r\nTransfer-Encoding: chunked\r\n\r\n9\r\n\xFF\xD8\xFF\0\0\0\0\0\0\r\n0\r\n\r\n",
-        ),
-        (
-            1015,
-            b"GET / HTTP/1.1\r\nSec-Fetch-Mode: no-cors\r\nSec-Fetch-Dest: video\r\nOrb-Media: 14\r\n\r\nHTTP/1.1 206 Partial Content\r\nContent-Type: video/ogg\r\nContent-Range: bytes 0-10/11\r\nContent-Length: 11\r\n\r\nOggS\0\0\0\0\0\0\0",
-        ),
-    ];
-    for (number, expected) in rows {
+    for (number, expected) in KINDS {
         for size in [1, 7, 8192] {
             assert!(rt;
                 gives(&mut TrialSource::new(number, 1), size, expected),

@@ -6,7 +6,7 @@ use Rattle.http_exchange.proofs.HeadSpans.{HasFields-found, length-request}
 use Rattle.http_exchange.proofs.spans.request_within.Goals as goal
 
 pub returns-clause-found : goal.returns-clause-found
-returns-clause-found c =
+returns-clause-found g c =
     let head = c.args.head.now in
     let found = take c.in-Ok-Complete.request.headers c.parse_request.new.headers in
     let within = rw c.in-Ok-Complete.field-0-is at c.in-Ok-Complete.ensures.within in
