@@ -89,10 +89,11 @@ mod tests {
             let sink = MemorySink::open(alloc, 0, Vec::new(alloc))?;
             links.push(Some(MemoryLink::new(source, sink)))?;
         }
-        let mut dialer = MemoryDialer::new(links, [1].to_vec(alloc)?);
+        let mut dialer = MemoryDialer::new(links, [1, 2].to_vec(alloc)?);
         // whether a call fails, and where links stand when the link was given back
         let rows = [
             (false, [false, true, false, true]),
+            (true, [false, true, false, true]),
             (true, [false, true, false, true]),
             (false, [false, true, false, true]),
             (true, [false, true, false, true]),
@@ -107,7 +108,7 @@ mod tests {
                 assert_eq!(rt; dialer.link(index).is_some(), *stands);
             }
         }
-        assert_eq!(rt; dialer.faults, 2);
+        assert_eq!(rt; dialer.faults, 3);
         Ok(())
     }
 }

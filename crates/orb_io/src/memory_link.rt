@@ -119,14 +119,16 @@ mod tests {
     fn pulls_and_pushes(rt: HostRuntime) -> Result<(), Fail> {
         let alloc = rt.alloc();
         let bytes = b"abcdefgh".to_vec(alloc)?;
-        let source = MemorySource::new(bytes, 3, [1].to_vec(alloc)?);
-        let sink = MemorySink::open(alloc, 7, [1].to_vec(alloc)?)?;
+        let source = MemorySource::new(bytes, 3, [1, 4].to_vec(alloc)?);
+        let sink = MemorySink::open(alloc, 7, [1, 3].to_vec(alloc)?)?;
         let mut link = MemoryLink::new(source, sink);
         let turns = [
             (true, "abc"),
             (false, "abc"),
             (false, "abc"),
             (true, "abcgh"),
+            (false, "abcgh"),
+            (false, "abcgh"),
             (true, "abcgh"),
         ];
         for (done, put) in turns {

@@ -112,13 +112,14 @@ mod tests {
 
     #[test]
     fn takes_what_fits_and_fails_at_its_calls(rt: HostRuntime) -> Result<(), Fail> {
-        let fails = [1].to_vec(rt.alloc())?;
+        let fails = [1, 4].to_vec(rt.alloc())?;
         let mut sink = MemorySink::open(rt.alloc(), 3, fails)?;
         let pushes = [
             ("a", true, "a"),
             ("b", false, "a"),
             ("", true, "a"),
             ("bcdef", false, "abc"),
+            ("", false, "abc"),
             ("", true, "abc"),
             ("d", false, "abc"),
         ];
@@ -126,7 +127,7 @@ mod tests {
             assert_eq!(rt; sink.push(piece.as_bytes()).is_ok(), done);
             assert_eq!(rt; sink.bytes(), bytes.as_bytes());
         }
-        assert_eq!(rt; sink.faults, 3);
+        assert_eq!(rt; sink.faults, 4);
         Ok(())
     }
 }
