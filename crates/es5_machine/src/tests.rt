@@ -22,7 +22,7 @@ use Verdict::{Alive, DeadAt, Misjudged, Script};
 /// Pieces, each so many times, that make a text.
 type Pieces = &'static [(usize, &'static str)];
 
-static ROWS: [(Pieces, Verdict); 71] = [
+static ROWS: [(Pieces, Verdict); 75] = [
     // expressions
     (&[(1, "a = b ? c : d = e;")], Script),
     (&[(1, "new new a(b)(c).d;")], Script),
@@ -106,6 +106,11 @@ static ROWS: [(Pieces, Verdict); 71] = [
     (&[(1025, "a?b:"), (1, "c?d:e")], Script),
     (&[(5000, "a?b:"), (1, "c")], Script),
     (&[(1, "if(a)b;"), (5000, "else if(a)b;")], Script),
+    // length
+    (&[(1_000_000, "a")], Script),
+    (&[(1, "/*"), (1_000_000, " "), (1, "*/")], Script),
+    (&[(1, "/*"), (1_000_000, " ")], Alive),
+    (&[(1, "a=\""), (1_000_000, "a"), (1, "\"")], Script),
 ];
 
 /// The characters of the pieces.
