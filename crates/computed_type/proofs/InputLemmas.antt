@@ -8,7 +8,7 @@ use Rattle.http_exchange.specs.HeadTexts.{head_limit, IsHeadText, IsOpenHead}
 use Rattle.http_exchange.specs.Gathering.{TakesHead}
 use Rattle.http_exchange.specs.declared.gathering.HeadTaken.TheVariants as given
 use Rattle.computed_type.specs.declared.outcome.TypeOutcome.TheVariants as outcome
-use Rattle.computed_type.specs.Inputs.{window_of}
+use Rattle.signatures.specs.Window.{window_size, window_of}
 use Rattle.computed_type.specs.Reading.{Reads, HeadAnswers}
 
 -- ---- windows
@@ -23,7 +23,7 @@ take_grows (suc n) (x ∷ a) b =
     ap (λ t. x ∷ t) (take_grows n a b) ∙ ap (λ k. x ∷ (take n a ++ take k b)) (sym e)
 
 window_grows : (body piece : List ℕ) → window_of (body ++ piece) ≡ window_of body ++ take (1024 - length (window_of body)) piece
-unfolding window_of
+unfolding window_size
 window_grows body piece = take_grows 1024 body piece
 
 -- text after as much of it as was taken
@@ -46,11 +46,8 @@ window_more first seen window body more piece before grew is =
     ∙ sym (window_grows (body ++ more) piece)
     ∙ ap window_of (append_assoc body more piece)
 
-pub window_same : (first body : List ℕ) → first ≡ window_of body → first ≡ window_of (body ++ [])
-window_same first body is = is ∙ ap window_of (sym (append-nil body))
-
 window_begins : (window piece : List ℕ) → window ≡ take 1024 piece → window ≡ window_of piece
-unfolding window_of
+unfolding window_size
 window_begins window piece is = is
 
 -- ---- what is read besides

@@ -4,3 +4,4 @@ mod ComputedLemmas
 mod WritingLemmas
 mod InputLemmas
 mod RunLemmas
+pub mod AnswerLemmas

@@ -4,6 +4,7 @@ use Rattle.std.proofs.Math.Seq.{take-append-add}
 use Rattle.orb_bytes.specs.Ascii.{line_feed}
 use Rattle.orb_io.specs.Told.{IsPrefix}
 use Rattle.orb_io.proofs.ToldLemmas.{Loses-twice}
+use Rattle.orb_io.specs.declared.pulling.TheConstants.{MOST_OF_A_RUN}
 use Rattle.http_exchange.specs.declared.refusals.BadKind.{BadKind}
 use Rattle.header_values.specs.Fields.{pairs_in}
 use Rattle.http_exchange.specs.declared.response.ResponseHead.{ResponseHead}
@@ -12,21 +13,9 @@ use Rattle.computed_type.specs.declared.outcome.TypeOutcome.{TypeOutcome}
 use Rattle.computed_type.specs.declared.outcome.TypeOutcome.TheVariants as outcome
 use Rattle.computed_type.specs.Computed.{HasType}
 use Rattle.computed_type.specs.Inputs.{HasFields, IsBegun}
-use Rattle.computed_type.specs.Answers.{run_limit, HasLine, Ran}
+use Rattle.computed_type.specs.Answers.{HasLine, Ran}
 use Rattle.computed_type.specs.Reading.{Reads, HasHead, HeadAnswers, BodyAnswers}
 use Rattle.computed_type.proofs.InputLemmas.{whole_short}
-
-within : (n : ℕ) → n ≤ 2 ^ 62 → n ≤ run_limit
-unfolding run_limit
-within n few = few
-
-past : (n : ℕ) → 2 ^ 62 < n → run_limit < n
-unfolding run_limit
-past n more = more
-
-short_of_limit : (n : ℕ) → n ≤ 65536 → n ≤ run_limit
-unfolding run_limit
-short_of_limit n few = omega (arith, few)
 
 -- the head didn't come whole
 pub head_ran : (o : TypeOutcome) (a b : Option (List ℕ)) (head window : List ℕ) → Reads a b (HeadAnswers (Err o) head window b) → Ran o a b []
@@ -39,7 +28,7 @@ head_ran outcome.Cut a b head window r = record {
   ended = true;
   lost = r.lost;
   at_end = λ _. r.holds.0;
-  fits = λ _. within (length r.bytes) r.holds.1;
+  fits = λ _. r.holds.1;
   answers = (refl, r.holds.2, refl);
 }
 head_ran outcome.HeadLimit a b head window r = record {
@@ -47,7 +36,7 @@ head_ran outcome.HeadLimit a b head window r = record {
   ended = false;
   lost = r.lost;
   at_end = λ lie. absurd (cc lie);
-  fits = λ _. within (length r.bytes) r.holds.0;
+  fits = λ _. r.holds.0;
   answers = (r.holds.1, refl);
 }
 head_ran outcome.ReadFault a b head window r = record {
@@ -55,7 +44,7 @@ head_ran outcome.ReadFault a b head window r = record {
   ended = false;
   lost = r.lost;
   at_end = λ lie. absurd (cc lie);
-  fits = λ _. within (length r.bytes) r.holds.0;
+  fits = λ _. r.holds.0;
   answers = (refl, inl r.holds.1, refl);
 }
 
@@ -69,7 +58,7 @@ bad_ran kind a b taken head window r refused =
       ended = false;
       lost = r.lost;
       at_end = λ lie. absurd (cc lie);
-      fits = λ _. within (length r.bytes) (omega (arith, r.holds.0, r.holds.1));
+      fits = λ _. omega (arith, r.holds.0, r.holds.1);
       answers = (record { head = head; rest = h.body; cut = h.cut; text = h.text; refused = refused }, refl);
     }
 
@@ -84,7 +73,7 @@ begun_more head window read more fields h stated = record {
 }
 
 -- the same of the first bytes, which the head doesn't pass
-take_after : (n : ℕ) (a b : List ℕ) → length a ≤ n → take n (a ++ b) ≡ a ++ take (n - length a) b
+pub take_after : (n : ℕ) (a b : List ℕ) → length a ≤ n → take n (a ++ b) ≡ a ++ take (n - length a) b
 take_after n a b few =
     let e : n ≡ length a + (n - length a) = omega (arith, few) in
     ap (λ k. take k (a ++ b)) e ∙ take-append-add a b (n - length a)
@@ -114,7 +103,7 @@ body_ran outcome.ReadFault a b c taken head seen window fields r stated s =
       ended = false;
       lost = Loses-twice a b c r.bytes s.bytes r.lost s.lost;
       at_end = λ lie. absurd (cc lie);
-      fits = λ _. within (length (r.bytes ++ s.bytes)) (omega (arith, r.holds.0, s.holds, length-append r.bytes s.bytes));
+      fits = λ _. omega (arith, r.holds.0, s.holds, length-append r.bytes s.bytes);
       answers = (refl, inr (fields, h.body ++ s.bytes, begun_more head seen r.bytes s.bytes fields h stated), refl);
     }
 body_ran outcome.Endless a b c taken head seen window fields r stated s =
@@ -127,12 +116,12 @@ body_ran outcome.Endless a b c taken head seen window fields r stated s =
       at_end = λ lie. absurd (cc lie);
       fits = λ never. absurd (never refl);
       answers = (
-        past (length (r.bytes ++ s.bytes)) (omega (arith, r.holds.0, s.holds, length-append r.bytes s.bytes)),
+        (omega (arith, r.holds.0, s.holds, length-append r.bytes s.bytes)),
         refl,
         inr (
           fields,
-          take (run_limit - length head) (h.body ++ s.bytes),
-          begun_first run_limit (r.bytes ++ s.bytes) fields (h.body ++ s.bytes) all (short_of_limit (length head) (whole_short head h.text)),
+          take (MOST_OF_A_RUN - length head) (h.body ++ s.bytes),
+          begun_first MOST_OF_A_RUN (r.bytes ++ s.bytes) fields (h.body ++ s.bytes) all (omega (arith, whole_short head h.text)),
         ),
         refl,
       );
@@ -164,7 +153,7 @@ done_ran a b c taken head seen window fields essence r stated s is =
       ended = true;
       lost = Loses-twice a b c r.bytes s.bytes r.lost s.lost;
       at_end = λ _. s.holds.0;
-      fits = λ _. within (length (r.bytes ++ s.bytes)) (omega (arith, r.holds.0, s.holds.1, length-append r.bytes s.bytes));
+      fits = λ _. omega (arith, r.holds.0, s.holds.1, length-append r.bytes s.bytes);
       answers = (refl, line_of a b c taken head seen window fields essence (λ l. line ≡ l) r stated s is refl);
     }
 
@@ -176,7 +165,7 @@ fault_ran a b c taken head seen window fields essence wrote r stated s is prefix
   ended = true;
   lost = Loses-twice a b c r.bytes s.bytes r.lost s.lost;
   at_end = λ _. s.holds.0;
-  fits = λ _. within (length (r.bytes ++ s.bytes)) (omega (arith, r.holds.0, s.holds.1, length-append r.bytes s.bytes));
+  fits = λ _. omega (arith, r.holds.0, s.holds.1, length-append r.bytes s.bytes);
   answers = (refl, line_of a b c taken head seen window fields essence (λ l. IsPrefix wrote l) r stated s is prefix);
 }
 

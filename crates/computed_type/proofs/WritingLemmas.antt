@@ -25,13 +25,6 @@ pub record Lowered {O : Type 0} (g : Ghosts O) (a b : O) (text rest : List ℕ) 
   pub is : text ≡ done ++ rest
   pub puts : Puts {T = Unit {0}} {E = Failed} g (Ok tt) a b (str_to_ascii_lowercase done)
 
-pub lowered-first : {O : Type 0} (g : Ghosts O) (a : O) (text : List ℕ) → Agrees (g.told a) → g.kept a a → Lowered g a a text text
-lowered-first g a text agrees kept = record {
-  done = [];
-  is = refl;
-  puts = Puts-none g tt a agrees kept;
-}
-
 pub lowered-more : {O : Type 0} (g : Ghosts O) (a b c : O) (text rest piece after : List ℕ) → (g.kept a b → g.kept b c → g.kept a c)
     → Lowered g a b text rest → rest ≡ piece ++ after → Puts {T = Unit {0}} {E = Failed} g (Ok tt) b c (str_to_ascii_lowercase piece)
     → Lowered g a c text after
@@ -56,9 +49,3 @@ lowered-fault g a b c fault other text rest piece after kept before cut puts =
     subst (λ (t : List ℕ). Puts {T = Unit {0}} g (Err other) a c t) (sym all)
     (Puts-first {T = Unit {0}} g fault other a c (lower before.done ++ lower piece) (lower after)
     (Puts-then g tt (Err fault) a b c (lower before.done) (lower piece) kept before.puts puts))
-
-pub lowered-last : {O : Type 0} (g : Ghosts O) (a b : O) (text rest : List ℕ) → Lowered g a b text rest → rest ≡ []
-    → Puts {T = Unit {0}} {E = Failed} g (Ok tt) a b (str_to_ascii_lowercase text)
-lowered-last g a b text rest before none =
-    subst (λ (t : List ℕ). Puts {T = Unit {0}} {E = Failed} g (Ok tt) a b (str_to_ascii_lowercase t))
-    (sym (before.is ∙ ap (λ t. before.done ++ t) none ∙ append-nil before.done)) before.puts

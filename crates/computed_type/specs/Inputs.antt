@@ -1,5 +1,5 @@
 -- An input that is a response head and then its body, as it is, up to the end (RFC 9112 2.1).
-use Rattle.std.specs.Prelude.{◌≡◌, ℕ, ◌⊎◌, false, List, ◌++◌, take, Ok, Err}
+use Rattle.std.specs.Prelude.{◌≡◌, ℕ, ◌⊎◌, false, List, ◌++◌, Ok, Err}
 use Rattle.header_values.specs.Fields.{pairs_in}
 use Rattle.http_exchange.specs.declared.refusals.BadKind.{BadKind}
 use Rattle.http_exchange.specs.declared.response.ResponseHead.{ResponseHead}
@@ -37,7 +37,3 @@ pub record IsBegun (m : List ℕ) (fields : List (List ℕ × List ℕ)) (body :
 -- the head may still come, or it has come and isn't refused
 abbrev pub IsOpen : List ℕ → Type 0
 IsOpen m = IsOpenHead m ⊎ ((fields : List (List ℕ × List ℕ)) × (body : List ℕ) × IsBegun m fields body)
-
--- the first bytes of a body, which are looked at for its type: all of a shorter one
-unfoldable pub window_of : List ℕ → List ℕ
-window_of body = take 1024 body

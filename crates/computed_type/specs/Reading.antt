@@ -4,7 +4,8 @@ use Rattle.orb_io.specs.Told.{Loses, IsAtEnd, Rose}
 use Rattle.http_exchange.specs.HeadTexts.{IsHeadText, IsOpenHead}
 use Rattle.computed_type.specs.declared.outcome.TypeOutcome.{TypeOutcome}
 use Rattle.computed_type.specs.declared.outcome.TypeOutcome.TheVariants as outcome
-use Rattle.computed_type.specs.Inputs.{IsTooLong, window_of}
+use Rattle.signatures.specs.Window.{window_of}
+use Rattle.computed_type.specs.Inputs.{IsTooLong}
 
 -- the source lost some bytes, and this holds of them
 pub record Reads (left left' : Option (List ℕ)) (P : List ℕ → Type 0) : Type 0 where

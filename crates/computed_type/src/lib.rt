@@ -24,6 +24,6 @@ mod writing;
 
 pub use answer::Computed;
 pub use computing::computed;
-pub use laws::one_type;
+pub use laws::{one_answer, one_type};
 pub use outcome::TypeOutcome;
 pub use run::TypeRun;

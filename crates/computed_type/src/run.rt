@@ -1,5 +1,5 @@
 //! A whole run over a response.
-ghost use Rattle.std.specs.Prelude.{◌≡◌, ◌≤◌, ◌<◌, ◌^◌, ℕ, List, [], length, vec_len, IfOk, OnOk};
+ghost use Rattle.std.specs.Prelude.{◌≡◌, ◌≤◌, ◌<◌, ◌^◌, ℕ, List, [], length, vec_len, OnOk};
 ghost use Rattle.orb_io.specs.Told.{Gives};
 ghost use Rattle.computed_type.specs.Answers.{Ran, RunCauses};
 ghost use Rattle.computed_type.specs.Reading.{Reads, HeadAnswers, BodyAnswers, ReadCauses};

@@ -1,5 +1,5 @@
 use Rattle.std.proofs.Common.{◌≡◌, ◌+◌, ◌-◌, ◌≤◌, ◌^◌, ◌++◌, ℕ, List, length}
-use Rattle.computed_type.specs.Inputs.{window_of}
+use Rattle.signatures.specs.Window.{window_of}
 use Rattle.computed_type.specs.Reading.{Reads}
 use Rattle.computed_type.proofs.run.read_body.Given as goal
 
