@@ -4,3 +4,6 @@ mod Base64Lemmas
 mod EachLemmas
 mod HeaderLemmas
 mod EntriesLemmas
+mod KeptLemmas
+mod SentLemmas
+pub mod RecordingLemmas
