@@ -2,7 +2,7 @@
 use Rattle.std.proofs.Common.{◌≡◌, ℕ, ◌<◌, ◌≤◌, ◌%◌, Bool, true, false, ◌||◌, ◌&&◌, nat_lt, List, length, if◌then◌else◌, refl, arith}
 use Rattle.std.proofs.lemmas.Bool.Decides.{nat_tests}
 use Rattle.response_rules.specs.Heads.{Case}
-use Rattle.response_rules.specs.Tables.{window_size}
+use Rattle.signatures.specs.Window.{window_size}
 use Rattle.response_rules.specs.Settled.{is_sent, is_blocked, is_hopeless, is_in_text}
 use Rattle.response_rules.proofs.HopelessLemmas.{hopeful-short}
 use Rattle.http_exchange.specs.Chunks.{chunk_size}

@@ -8,7 +8,8 @@ use Rattle.response_rules.specs.Rules.{is_allowing}
 use Rattle.response_rules.specs.Tables.{rule_of}
 use Rattle.response_rules.specs.Settled.{is_sent}
 use Rattle.response_rules.proofs.SettledLemmas.{sent-longer, sent-allows}
-use Rattle.http_exchange.specs.Chunks.{chunk_size, crlf, chunk, full_chunks, count_full, rest_of, rest_chunk, last_chunk, body_so_far, whole_body, kept_of}
+use Rattle.orb_bytes.specs.Ascii.{crlf}
+use Rattle.http_exchange.specs.Chunks.{chunk_size, chunk, full_chunks, count_full, rest_of, rest_chunk, last_chunk, body_so_far, whole_body, kept_of}
 use Rattle.http_exchange.specs.Framing.{put_of, end_of}
 use Rattle.body_filter.specs.Reply.{reply_of}
 use Rattle.body_filter.specs.Responses.{Response, output_so_far, whole_output}

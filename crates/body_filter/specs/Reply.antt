@@ -2,7 +2,7 @@
 use Rattle.std.specs.Prelude.{ℕ, List, ◌++◌, codes}
 use Rattle.response_rules.specs.Rules.{name_of}
 use Rattle.response_rules.specs.declared.rules.Rule.{Rule}
-use Rattle.http_exchange.specs.Chunks.{crlf}
+use Rattle.orb_bytes.specs.Ascii.{crlf}
 
 -- a response with status 403 and no body, whose one further field names the rule
 unfoldable pub reply_of : Rule → List ℕ

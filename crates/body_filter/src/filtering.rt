@@ -157,6 +157,13 @@ impl Filter {
         Ok(verdict)
     }
 
+    /// How many bytes of a body are held back at most.
+    pub fn limit(&self) -> u64
+        ensures { result ≡ limit_of self.now }
+    {
+        self.limit as u64
+    }
+
     /// How many bytes of the body are held back.
     pub fn held(&self) -> usize
         ensures value { result ≡ held_in self.now }

@@ -12,11 +12,25 @@ use std::test::Fail;
 
 const LIMIT: u64 = 2048;
 
+/// The bytes of some fields, and where these stand.
+type Head = (&'static [u8], &'static [FieldSpan]);
+
+/// Bytes, each part so often.
+type Bytes = &'static [(u32, &'static [u8])];
+
+/// The fields of a response, whether the request is opaque, whether the body comes in chunks, the body, the rule that
+/// decides, and what goes out.
+type Row = (Head, bool, bool, Bytes, Rule, Bytes);
+
+/// The fields of a response, whether the request is opaque, whether the body comes in chunks, and the body; and of each
+/// piece how long it is, what is held after it, and how much went out.
+type Steps = (Head, bool, bool, Bytes, &'static [(usize, usize, usize)]);
+
 /// No fields.
-const BARE: (&[u8], &[FieldSpan]) = (b"", &[]);
+const BARE: Head = (b"", &[]);
 
 /// Plain text.
-const PLAIN: (&[u8], &[FieldSpan]) = (
+const PLAIN: Head = (
     b"Content-Type: text/plain\r\n",
     &[FieldSpan {
         name_start: 0,
@@ -27,7 +41,7 @@ const PLAIN: (&[u8], &[FieldSpan]) = (
 );
 
 /// HTML that isn't to be guessed.
-const HTML: (&[u8], &[FieldSpan]) = (
+const HTML: Head = (
     b"Content-Type: text/html\r\nX-Content-Type-Options: nosniff\r\n",
     &[
         FieldSpan {
@@ -60,31 +74,197 @@ const JSON_REPLY: &[u8] = b"HTTP/1.1 403 Forbidden\r\nContent-Length: 0\r\nOrb-R
 const TEXT_REPLY: &[u8] =
     b"HTTP/1.1 403 Forbidden\r\nContent-Length: 0\r\nOrb-Rule: not-script\r\n\r\n";
 
-/// The fields of a response, whether the request is opaque, and whether the body came in chunks.
-#[derive(Clone, Copy, Debug)]
-struct Response<'a> {
-    fields: (&'a [u8], &'a [FieldSpan]),
-    opaque: bool,
-    chunked: bool,
-}
+/// Longer than the limit, and than two chunks.
+const LONG: Bytes = &[(2049, b"x")];
 
-fn made_with<'a>(fields: (&'a [u8], &'a [FieldSpan]), opaque: bool, chunked: bool) -> Response<'a> {
-    Response {
-        fields,
-        opaque,
-        chunked,
+/// An image of 2,008 bytes.
+const IMAGE: Bytes = &[(1, PNG), (2000, b"x")];
+
+const ROWS: [Row; 13] = [
+    (
+        BARE,
+        false,
+        false,
+        LONG,
+        Rule::NotOpaque,
+        &[(1, HEAD), (2049, b"x")],
+    ),
+    (BARE, false, true, LONG, Rule::NotOpaque, CHUNKS),
+    (
+        BARE,
+        false,
+        true,
+        &[(1024, b"x")],
+        Rule::NotOpaque,
+        ONE_CHUNK,
+    ),
+    (
+        BARE,
+        false,
+        true,
+        &[(1019, b"x")],
+        Rule::NotOpaque,
+        SHORT_CHUNK,
+    ),
+    (BARE, false, false, &[], Rule::NotOpaque, &[(1, HEAD)]),
+    (
+        BARE,
+        true,
+        false,
+        IMAGE,
+        Rule::Image,
+        &[(1, HEAD), (1, PNG), (2000, b"x")],
+    ),
+    (
+        BARE,
+        true,
+        false,
+        &[(1, PNG)],
+        Rule::Image,
+        &[(1, HEAD), (1, PNG)],
+    ),
+    (BARE, true, true, LONG, Rule::Untyped, CHUNKS),
+    (
+        PLAIN,
+        true,
+        false,
+        LONG,
+        Rule::BodyLimit,
+        &[(1, LONG_REPLY)],
+    ),
+    (
+        PLAIN,
+        true,
+        false,
+        &[(2048, b"x")],
+        Rule::Script,
+        &[(1, HEAD), (2048, b"x")],
+    ),
+    (
+        PLAIN,
+        true,
+        false,
+        &[(1, b"[1]")],
+        Rule::Json,
+        &[(1, JSON_REPLY)],
+    ),
+    (
+        PLAIN,
+        true,
+        true,
+        &[(1, b"a b")],
+        Rule::NotScript,
+        &[(1, TEXT_REPLY)],
+    ),
+    (
+        HTML,
+        true,
+        false,
+        LONG,
+        Rule::NosniffBlocklisted,
+        &[(1, REPLY)],
+    ),
+];
+
+/// The head and the long body in chunks.
+const CHUNKS: Bytes = &[
+    (1, HEAD),
+    (1, b"400\r\n"),
+    (1024, b"x"),
+    (1, b"\r\n400\r\n"),
+    (1024, b"x"),
+    (1, b"\r\n1\r\nx\r\n0\r\n\r\n"),
+];
+
+/// The head and a body that fills a chunk.
+const ONE_CHUNK: Bytes = &[
+    (1, HEAD),
+    (1, b"400\r\n"),
+    (1024, b"x"),
+    (1, b"\r\n0\r\n\r\n"),
+];
+
+/// The head and a body that fills none.
+const SHORT_CHUNK: Bytes = &[
+    (1, HEAD),
+    (1, b"3fb\r\n"),
+    (1019, b"x"),
+    (1, b"\r\n0\r\n\r\n"),
+];
+
+const HELD: [Steps; 7] = [
+    (
+        BARE,
+        false,
+        false,
+        LONG,
+        &[(0, 0, 19), (1, 0, 20), (1023, 0, 1043), (1025, 0, 2068)],
+    ),
+    (
+        BARE,
+        false,
+        true,
+        LONG,
+        &[(0, 0, 19), (1023, 1023, 19), (1, 0, 1050), (1025, 1, 2081)],
+    ),
+    (
+        BARE,
+        true,
+        false,
+        &[(1, PNG), (2041, b"x")],
+        &[(8, 8, 0), (1015, 1023, 0), (1, 0, 1043), (1025, 0, 2068)],
+    ),
+    (
+        BARE,
+        true,
+        true,
+        LONG,
+        &[(1, 1, 0), (1022, 1023, 0), (2, 1, 1050), (1024, 1, 2081)],
+    ),
+    (
+        PLAIN,
+        true,
+        false,
+        LONG,
+        &[(1024, 1024, 0), (1023, 2047, 0), (1, 2048, 0), (1, 0, 0)],
+    ),
+    (
+        PLAIN,
+        true,
+        false,
+        &[(1, b"x x "), (2000, b"x")],
+        &[(512, 512, 0), (512, 0, 0), (512, 0, 0)],
+    ),
+    (
+        HTML,
+        true,
+        false,
+        LONG,
+        &[(0, 0, 0), (1, 0, 0), (1023, 0, 0), (1025, 0, 0)],
+    ),
+];
+
+/// The bytes of the parts.
+fn bytes_of(alloc: Global, parts: Bytes) -> Result<Vec<u8>, Fail> {
+    let mut bytes = Vec::new(alloc);
+    for (count, part) in parts {
+        for _ in 0..*count {
+            bytes.extend_from_slice(part)?;
+        }
     }
+    Ok(bytes)
 }
 
-fn decider(alloc: Global, response: &Response) -> Result<Decider, Fail>
+/// What judges a response with these fields, whose request is opaque or not.
+fn decider(alloc: Global, head: Head, opaque: bool) -> Result<Decider, Fail>
     ensures { IfOk result (λ d. IsMadeFor d LIMIT) }
 {
-    let fields = Fields::of(response.fields.0, response.fields.1).ok_or("fields of the head")?;
+    let fields = Fields::of(head.0, head.1).ok_or("fields of the head")?;
     let mut scratch = Scratch::open(alloc, fields.head.len())?;
     Ok(Decider::new(
         Policy::Orb,
         MediaState::Na,
-        response.opaque,
+        opaque,
         200,
         &fields,
         &mut scratch,
@@ -164,117 +344,19 @@ fn begin(
     filter.begin(decider, HEAD, chunked, sink)
 }
 
-/// The bytes, and so many times `x` after them, and the others.
-fn text(alloc: Global, prefix: &[u8], count: u32, back: &[u8]) -> Result<Vec<u8>, Fail> {
-    let mut text = prefix.to_vec(alloc)?;
-    for _ in 0..count {
-        text.push(b'x')?;
-    }
-    text.extend_from_slice(back)?;
-    Ok(text)
-}
-
 #[test]
 fn allowed_bodies_go_out_and_blocked_ones_dont(rt: HostRuntime) -> Result<(), Fail> {
     let alloc = rt.alloc();
-    let two_chunks = text(
-        alloc,
-        b"HTTP/1.1 200 OK\r\n\r\n400\r\n",
-        1024,
-        b"\r\n400\r\n",
-    )?;
-    let chunks = text(alloc, &two_chunks, 1024, b"\r\n1\r\nx\r\n0\r\n\r\n")?;
-    let full = text(
-        alloc,
-        b"HTTP/1.1 200 OK\r\n\r\n400\r\n",
-        1024,
-        b"\r\n0\r\n\r\n",
-    )?;
-    let long = text(alloc, b"", 2049, b"")?;
-    let one = text(alloc, b"", 1024, b"")?;
-    let script = text(alloc, b"", 2048, b"")?;
-    let sent_script = text(alloc, HEAD, 2048, b"")?;
-    let less = text(alloc, b"", 1019, b"")?;
-    let sized = text(alloc, HEAD, 2049, b"")?;
-    let image = text(alloc, PNG, 2000, b"")?;
-    let short = text(alloc, HEAD, 0, PNG)?;
-    let sent = text(alloc, HEAD, 0, &image)?;
-    let hexadecimal = text(
-        alloc,
-        b"HTTP/1.1 200 OK\r\n\r\n3fb\r\n",
-        1019,
-        b"\r\n0\r\n\r\n",
-    )?;
-    let rows: [(Response, &[u8], Rule, &[u8]); 13] = [
-        (
-            made_with(BARE, false, false),
-            &long,
-            Rule::NotOpaque,
-            &sized,
-        ),
-        (
-            made_with(BARE, false, true),
-            &long,
-            Rule::NotOpaque,
-            &chunks,
-        ),
-        (made_with(BARE, false, true), &one, Rule::NotOpaque, &full),
-        (
-            made_with(BARE, false, true),
-            &less,
-            Rule::NotOpaque,
-            &hexadecimal,
-        ),
-        (made_with(BARE, false, false), b"", Rule::NotOpaque, HEAD),
-        (made_with(BARE, true, false), &image, Rule::Image, &sent),
-        (made_with(BARE, true, false), PNG, Rule::Image, &short),
-        (made_with(BARE, true, true), &long, Rule::Untyped, &chunks),
-        (
-            made_with(PLAIN, true, false),
-            &long,
-            Rule::BodyLimit,
-            LONG_REPLY,
-        ),
-        (
-            made_with(PLAIN, true, false),
-            &script,
-            Rule::Script,
-            &sent_script,
-        ),
-        (
-            made_with(PLAIN, true, false),
-            b"[1]",
-            Rule::Json,
-            JSON_REPLY,
-        ),
-        (
-            made_with(PLAIN, true, true),
-            b"a b",
-            Rule::NotScript,
-            TEXT_REPLY,
-        ),
-        (
-            made_with(HTML, true, false),
-            &long,
-            Rule::NosniffBlocklisted,
-            REPLY,
-        ),
-    ];
-    for (response, body, rule, want) in rows {
+    for (fields, opaque, chunked, body, rule, put) in ROWS {
+        let body = bytes_of(alloc, body)?;
+        let put = bytes_of(alloc, put)?;
         for size in [1, 7, 4096] {
             let mut filter = Filter::open(alloc, LIMIT)?;
             let mut sink = MemorySink::open(alloc, 4096, Vec::new(alloc))?;
-            let decider = decider(alloc, &response)?;
-            let verdict = pass(
-                &mut filter,
-                decider,
-                response.chunked,
-                body,
-                size,
-                &mut sink,
-            )?;
-            assert_eq!(rt; verdict.rule, rule, "{response:?}");
-            assert_eq!(rt; sink.bytes(), want, "{response:?}");
+            let decider = decider(alloc, fields, opaque)?;
+            let verdict = pass(&mut filter, decider, chunked, &body, size, &mut sink)?;
+            assert_eq!(rt; verdict.rule, rule, "{rule:?}");
+            assert_eq!(rt; sink.bytes(), put.as_slice(), "{rule:?}");
         }
     }
     Ok(())
@@ -283,55 +365,15 @@ fn allowed_bodies_go_out_and_blocked_ones_dont(rt: HostRuntime) -> Result<(), Fa
 #[test]
 fn held_bytes_are_counted(rt: HostRuntime) -> Result<(), Fail> {
     let alloc = rt.alloc();
-    let image = text(alloc, PNG, 2041, b"")?;
-    let long = text(alloc, b"", 2049, b"")?;
-    let two_names = text(alloc, b"x x ", 2000, b"")?;
-    // how long each piece is, what is held after it, and how much went out
-    let rows: [(Response, &[u8], &[(usize, usize, usize)]); 7] = [
-        (
-            made_with(BARE, false, false),
-            &long,
-            &[(0, 0, 19), (1, 0, 20), (1023, 0, 1043), (1025, 0, 2068)],
-        ),
-        (
-            made_with(BARE, false, true),
-            &long,
-            &[(0, 0, 19), (1023, 1023, 19), (1, 0, 1050), (1025, 1, 2081)],
-        ),
-        (
-            made_with(BARE, true, false),
-            &image,
-            &[(8, 8, 0), (1015, 1023, 0), (1, 0, 1043), (1025, 0, 2068)],
-        ),
-        (
-            made_with(BARE, true, true),
-            &long,
-            &[(1, 1, 0), (1022, 1023, 0), (2, 1, 1050), (1024, 1, 2081)],
-        ),
-        (
-            made_with(PLAIN, true, false),
-            &long,
-            &[(1024, 1024, 0), (1023, 2047, 0), (1, 2048, 0), (1, 0, 0)],
-        ),
-        (
-            made_with(PLAIN, true, false),
-            &two_names,
-            &[(512, 512, 0), (512, 0, 0), (512, 0, 0)],
-        ),
-        (
-            made_with(HTML, true, false),
-            &long,
-            &[(0, 0, 0), (1, 0, 0), (1023, 0, 0), (1025, 0, 0)],
-        ),
-    ];
-    for (response, body, pieces) in rows {
+    for (fields, opaque, chunked, body, pieces) in HELD {
+        let body = bytes_of(alloc, body)?;
         let mut filter = Filter::open(alloc, LIMIT)?;
         assert_eq!(rt; filter.held(), 0);
         let mut sink = MemorySink::open(alloc, 4096, Vec::new(alloc))?;
-        let decider = decider(alloc, &response)?;
-        begin(&mut filter, decider, response.chunked, &mut sink)?;
-        let steps = steps(&mut filter, body, pieces, &mut sink)?;
-        assert!(rt; steps, "{response:?}");
+        let decider = decider(alloc, fields, opaque)?;
+        begin(&mut filter, decider, chunked, &mut sink)?;
+        let steps = steps(&mut filter, &body, pieces, &mut sink)?;
+        assert!(rt; steps, "{pieces:?}");
     }
     Ok(())
 }
@@ -339,12 +381,12 @@ fn held_bytes_are_counted(rt: HostRuntime) -> Result<(), Fail> {
 #[test]
 fn chunks_go_out_eight_by_a_push(rt: HostRuntime) -> Result<(), Fail> {
     let alloc = rt.alloc();
-    let body = text(alloc, b"", 9217, b"")?;
+    let body = bytes_of(alloc, &[(9217, b"x")])?;
     // the push that fails, and how much went out before it: the head, eight chunks, one more
     for (fails, put) in [(0, 0), (1, 19), (2, 8267), (3, 9298)] {
         let mut filter = Filter::open(alloc, LIMIT)?;
         let mut sink = MemorySink::open(alloc, 16384, [fails].to_vec(alloc)?)?;
-        let decider = decider(alloc, &made_with(BARE, false, true))?;
+        let decider = decider(alloc, BARE, false)?;
         let verdict = pass(&mut filter, decider, true, &body, 9217, &mut sink);
         assert_eq!(rt; verdict, Err(WriteFault));
         assert_eq!(rt; sink.bytes().len(), put);
@@ -367,7 +409,7 @@ fn a_fault_leaves_a_prefix_and_a_filter_that_begins_anew(rt: HostRuntime) -> Res
         let mut sink = MemorySink::open(alloc, room, [fails].to_vec(alloc)?)?;
         let first = pass(
             &mut filter,
-            decider(alloc, &made_with(BARE, false, false))?,
+            decider(alloc, BARE, false)?,
             false,
             b"abcdefgh",
             4,
@@ -378,7 +420,7 @@ fn a_fault_leaves_a_prefix_and_a_filter_that_begins_anew(rt: HostRuntime) -> Res
         let mut other = MemorySink::open(alloc, 128, Vec::new(alloc))?;
         let second = pass(
             &mut filter,
-            decider(alloc, &made_with(HTML, true, false))?,
+            decider(alloc, HTML, true)?,
             false,
             b"abcd",
             4,
