@@ -1,13 +1,9 @@
 -- The end of an exchange.
-use Rattle.std.proofs.Common.{◌≡◌, ℕ, cond, ◌+◌, Bool, true, false, List, [], ◌++◌, length, Option, None, Some, refl, ap, subst, ◌∙◌, arith}
-use Rattle.std.specs.Prelude.{is_some}
-use Rattle.std.specs.FinMap as map
+use Rattle.std.proofs.Common.{◌≡◌, ℕ, ◌+◌, List, [], ◌++◌, length, Option, None, Some, refl, ap, subst, arith}
 use Rattle.orb_io.specs.Told.{IsPrefix}
 use Rattle.orb_io.proofs.ToldLemmas.{IsPrefix-append, IsPrefix-trans}
-use Rattle.media_state.specs.Table.{States, admitted}
-use Rattle.std.proofs.lemmas.Cmp.{nat_cmp_total, eq_by_cmp_equiv}
+use Rattle.media_state.specs.Table.{States}
 use Rattle.media_state.specs.declared.states.MediaState.{MediaState}
-use Rattle.media_state.specs.declared.states.MediaState.TheVariants.{Initial}
 use Rattle.orb_engine.specs.declared.settings.Settings.{Settings}
 use Rattle.orb_engine.specs.declared.progress.Counts.{Counts}
 use Rattle.std.proofs.lemmas.List.{append-nil}
@@ -15,7 +11,7 @@ use Rattle.body_filter.specs.Responses.{Response}
 use Rattle.orb_engine.specs.declared.settings.Job.{Job}
 use Rattle.orb_engine.proofs.OutputLaws.{written_so_far-whole}
 use Rattle.media_state.specs.Table.{admits, keeps}
-use Rattle.media_state.specs.Table.{IsKept, stored}
+use Rattle.media_state.specs.Table.{stored}
 use Rattle.orb_engine.specs.Recording.{Exchange}
 use Rattle.orb_engine.specs.Outputs.{written_so_far, written_whole}
 use Rattle.orb_engine.specs.Counts.{rules_of_exchanges}

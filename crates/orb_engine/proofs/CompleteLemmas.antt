@@ -2,16 +2,17 @@
 use Rattle.std.proofs.Common.{◌≡◌, ℕ, ◌<◌, ◌≤◌, Bool, true, false, List, [], ◌∷◌, ◌++◌, length, Option, None, Some, refl, sym, ap, ◌∙◌, subst, arith}
 use Rattle.std.proofs.lemmas.List.{append-nil, length-append}
 use Rattle.orb_io.specs.Told.{Rose}
+use Rattle.orb_io.specs.declared.pulling.TheConstants.{MOST_OF_A_RUN}
 use Rattle.orb_engine.specs.declared.settings.Settings.{Settings}
 use Rattle.orb_engine.specs.declared.engine.Engine.{Engine}
 use Rattle.orb_engine.specs.declared.outcome.EngineOutcome.{EngineOutcome}
 use Rattle.orb_engine.specs.declared.outcome.EngineOutcome.TheVariants.{Done, Endless, ReadFault, WriteFault}
 use Rattle.orb_engine.specs.Recording as cut
-use Rattle.orb_engine.specs.Recording.{Tail, Recording, IsRecording, table_after_all, spell_exchanges}
+use Rattle.orb_engine.specs.Recording.{Tail, Recording, IsRecording, spell_exchanges}
 use Rattle.orb_engine.specs.Ends as ends
 use Rattle.orb_engine.specs.Ends.{End, stop_at, stop_of}
 use Rattle.orb_engine.specs.Reads.{IsStop}
-use Rattle.orb_engine.specs.Runs.{run_limit, Ends, Ran, RunCauses}
+use Rattle.orb_engine.specs.Runs.{Ends, Ran, RunCauses}
 use Rattle.orb_engine.specs.Complete.{IsWholeRecording, IsAll, IsComplete}
 use Rattle.orb_engine.proofs.AnswerLaws.{one-stop, one-output, refusal-alone}
 
@@ -43,9 +44,9 @@ prefix_is_all s read rest r a true whole first all closed =
 
 -- there are no more bytes than one run takes
 pub whole_is_not_endless : (s : Settings) (bytes read rest : List ℕ) (r : Recording) → IsWholeRecording s bytes r → bytes ≡ read ++ rest
-    → run_limit < length read → ⊥
+    → MOST_OF_A_RUN < length read → ⊥
 whole_is_not_endless s bytes read rest r whole lost more =
-    let fits : length (read ++ rest) ≤ run_limit = subst (λ l. length l ≤ run_limit) lost whole.fits in
+    let fits : length (read ++ rest) ≤ MOST_OF_A_RUN = subst (λ l. length l ≤ MOST_OF_A_RUN) lost whole.fits in
     omega (arith, length-append read rest)
 
 -- an end that is not open is that of the whole recording

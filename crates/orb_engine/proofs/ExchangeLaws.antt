@@ -15,9 +15,10 @@ use Rattle.orb_engine.specs.Judged.{judged_by, response_of}
 use Rattle.orb_engine.specs.Recording as cut
 use Rattle.orb_engine.specs.Recording.{Exchange, Tail, IsExchange, IsTail, IsOpenBody, IsBadBody, spell_heads, spell_exchange, spell_tail, is_open}
 use Rattle.orb_engine.specs.Outputs.{written_so_far, written_whole, written_tail}
-use Rattle.orb_engine.proofs.BodyLaws.{one_goes_on, longer_prefix, within_stuck, same_whole}
+use Rattle.exchanges.proofs.BodyLaws.{one_goes_on, longer_prefix, within_stuck, same_whole}
 use Rattle.orb_engine.proofs.OutputLaws.{written_so_far-grows, written_so_far-whole}
-use Rattle.orb_engine.proofs.StartLaws.{Asked, Answered, IsStart, one_start, ask_of, answer_of, start_of_heads, start_of_tail, same_heads}
+use Rattle.exchanges.proofs.HeadLaws.{Answered}
+use Rattle.orb_engine.proofs.StartLaws.{Asked, IsStart, one_start, ask_of, answer_of, start_of_heads, start_of_tail, same_heads}
 use Rattle.orb_engine.proofs.TailLaws.{whole_not_sending, whole_not_bad, moved, alone, same_tails}
 
 -- ---- an item and a tail

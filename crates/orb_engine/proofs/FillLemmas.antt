@@ -18,7 +18,7 @@ use Rattle.http_exchange.specs.HeadTexts.{head_limit, IsOpenHead}
 use Rattle.exchanges.specs.Heads.{Heads}
 use Rattle.orb_engine.specs.Judged.{response_of}
 use Rattle.orb_engine.specs.Recording as cut
-use Rattle.orb_engine.specs.Recording.{Exchange, Recording, AreExchanges, IsRecording, spell_heads, spell_exchanges}
+use Rattle.orb_engine.specs.Recording.{Exchange, IsRecording, spell_heads, spell_exchanges}
 use Rattle.orb_engine.specs.Outputs.{output_of, written_exchanges, written_so_far, written_whole}
 use Rattle.orb_engine.specs.Counts.{rules_of_exchanges}
 use Rattle.orb_engine.specs.Reads.{Coming, coming_response, open_cut, table_of, counts_of, IsTold, Stands, Reads, Fills, FillsAt, Settles}

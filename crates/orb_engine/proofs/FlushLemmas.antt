@@ -23,7 +23,7 @@ use Rattle.orb_engine.specs.Recording.{Exchange, Tail, Recording, is_open}
 use Rattle.orb_engine.specs.Outputs.{output_of, written_exchanges}
 use Rattle.orb_engine.specs.Counts.{rules_of, rules_of_exchanges, rules_of_tail}
 use Rattle.orb_engine.specs.Writing.{IsSameBut, IsWriterFor, box_of, gathered_by}
-use Rattle.orb_engine.specs.Reads.{open_cut, table_of, counts_of, IsTold, Stands, IsStop, Reads, Stops, Breaks, Halts}
+use Rattle.orb_engine.specs.Reads.{open_cut, table_of, counts_of, IsTold, Stands, IsStop, Reads, Stops, Breaks}
 use Rattle.orb_engine.specs.Ends.{Open}
 use Rattle.orb_engine.specs.Runs.{HasCounted, HasCountedPrefix, HasRead, Ends, Fails, EndsAs}
 use Rattle.orb_engine.proofs.AnswerLaws.{opens-stop}
@@ -96,18 +96,6 @@ as-ends (outcome.HeadLimit at) e s m ended given never h = h
 as-ends (outcome.MediaFull at) e s m ended given never h = h
 as-ends outcome.Endless e s m ended given never h = h
 as-ends outcome.ReadFault e s m ended given never h = h
-
--- what stops a step, where the sink has not failed
-pub as-stops : (o : EngineOutcome) (e : Engine) (s : Settings) (m : List ℕ) (ended : Bool) (given : List ℕ)
-    → (o ≡ outcome.WriteFault → ⊥) → Halts o e s m ended given → Stops o e s m ended given
-as-stops outcome.WriteFault e s m ended given never h = absurd (never refl)
-as-stops outcome.Done e s m ended given never h = h
-as-stops (outcome.Bad kind at) e s m ended given never h = h
-as-stops (outcome.Cut at) e s m ended given never h = h
-as-stops (outcome.HeadLimit at) e s m ended given never h = h
-as-stops (outcome.MediaFull at) e s m ended given never h = h
-as-stops outcome.Endless e s m ended given never h = h
-as-stops outcome.ReadFault e s m ended given never h = h
 
 -- an open tail adds no exchange
 open-rules : (s : Settings) (exchanges : List Exchange) (t : Tail) → is_open t ≡ true → rules_of s (open_cut exchanges t) false ≡ rules_of_exchanges exchanges

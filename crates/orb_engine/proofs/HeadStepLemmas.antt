@@ -31,7 +31,7 @@ use Rattle.http_exchange.specs.HeadTexts.{IsHeadText, IsOpenHead, IsLongHead}
 use Rattle.exchanges.specs.Heads.{RequestText, id_of, state_before}
 use Rattle.media_state.specs.Table.{admits, IsRefusedId}
 use Rattle.orb_engine.specs.Recording as cut
-use Rattle.orb_engine.specs.Recording.{Exchange, Tail, Recording, IsRecording, IsTail, is_open, spell_exchanges, spell_tail}
+use Rattle.orb_engine.specs.Recording.{Exchange, Tail, IsRecording, IsTail, spell_exchanges, spell_tail}
 use Rattle.orb_engine.specs.Ends as ends
 use Rattle.orb_engine.specs.Ends.{End, stop_of}
 use Rattle.orb_engine.specs.Outputs.{output_of, written_exchanges, written_tail}

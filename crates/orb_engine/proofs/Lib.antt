@@ -2,8 +2,6 @@ pub mod WorkLemmas
 pub mod GatherLemmas
 pub mod CutLemmas
 pub mod ClosingLemmas
-pub mod HeadLaws
-pub mod BodyLaws
 pub mod OutputLaws
 pub mod StartLaws
 pub mod TailLaws

@@ -18,8 +18,9 @@ use Rattle.orb_engine.specs.Recording.{Tail, Recording}
 use Rattle.orb_engine.specs.Ends.{Open}
 use Rattle.orb_engine.specs.Counts.{rules_of, rules_of_exchanges, rules_of_tail, count_allowed, count_blocked}
 use Rattle.orb_io.specs.Outboxes.{OutboxState}
+use Rattle.orb_io.specs.declared.pulling.TheConstants.{MOST_OF_A_RUN}
 use Rattle.orb_engine.specs.Reads.{HaltCause, open_cut}
-use Rattle.orb_engine.specs.Runs.{run_limit, HasRead, Ends, EndsAs, FeedAnswers, FeedCauses, RunAnswers, RunCauses, Ran}
+use Rattle.orb_engine.specs.Runs.{HasRead, Ends, EndsAs, FeedAnswers, FeedCauses, RunAnswers, RunCauses, Ran}
 use Rattle.orb_engine.specs.Turns.{piece_of, is_ended, TurnAnswers, TurnCauses, Running}
 use Rattle.orb_engine.proofs.AnswerLaws.{opens-stop}
 
@@ -98,17 +99,13 @@ turn-feed p count r e s m given room is some x =
     (subst (λ (t : Bool). TurnAnswers r e s (m ++ take count room) t given) (sym (not_zero count some))
     (feed-answers r e s (m ++ take count room) given x))
 
-limit-is : run_limit ≡ 2 ^ 62
-unfolding run_limit
-limit-is = refl
-
 -- the pull gave some bytes past the last that a run takes
 pub turn-endless : (p : Result ℕ Failed) (count : ℕ) (e : Engine) (s : Settings) (m given room : List ℕ) → p ≡ Ok count
     → (count ≡ 0 → ⊥) → count ≤ length room → e.progress.taken ≡ 2 ^ 62 → HasRead e s m given
     → RunAnswers outcome.Endless e s (m ++ piece_of p room) (is_ended p) given
 turn-endless p count e s m given room is some within full r =
-    let size : run_limit ≡ length m = limit-is ∙ sym full ∙ r.reads.taken in
-    let first : take run_limit (m ++ take count room) ≡ m = ap (λ j. take j (m ++ take count room)) size ∙ take-append_seam m (take count room) in
+    let size : MOST_OF_A_RUN ≡ length m = sym full ∙ r.reads.taken in
+    let first : take MOST_OF_A_RUN (m ++ take count room) ≡ m = ap (λ j. take j (m ++ take count room)) size ∙ take-append_seam m (take count room) in
     subst (λ (q : Result ℕ Failed). RunAnswers outcome.Endless e s (m ++ piece_of q room) (is_ended q) given) (sym is) (
       omega (arith, size, length-append m (take count room), length-take-le count room within, some),
       not_zero count some,
@@ -175,7 +172,7 @@ run-ends r o p e e' s left left' left'' room given given' is some w pulls within
   ended = is_ended p;
   lost = Loses-twice left left' left'' w.read (piece_of p room) w.lost (pull-lost p left' left'' room pulls);
   at_end = pull-ended p left' left'' room some pulls;
-  fits = λ never. omega (arith, limit-is, within never, w.reads.reads.taken, length-append w.read (piece_of p room));
+  fits = λ never. omega (arith, within never, w.reads.reads.taken, length-append w.read (piece_of p room));
   answers = subst (λ (q : Option EngineOutcome). TurnAnswers q e' s (w.read ++ piece_of p room) (is_ended p) given') is answers;
 }
 

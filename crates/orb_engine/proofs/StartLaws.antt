@@ -10,7 +10,8 @@ use Rattle.exchanges.specs.Heads.{RequestText, ResponseText, Heads, IsRequestIn,
 use Rattle.media_state.specs.Table.{IsRefusedId}
 use Rattle.orb_engine.specs.Recording as cut
 use Rattle.orb_engine.specs.Recording.{Tail, IsTail, spell_heads, spell_tail, is_open}
-use Rattle.orb_engine.proofs.HeadLaws.{Opens, Longs, Stands, view, view-open, view-stands, view-long, ask_once, bad_request_once, ask_or_bad, response_once, bad_response_once, response_or_bad}
+use Rattle.http_exchange.proofs.ReadingLemmas.{bad_response_once}
+use Rattle.exchanges.proofs.HeadLaws.{Opens, Longs, Stands, view, view-stands, view-long, opens, ask_once, bad_request_once, ask_or_bad, Answer, NoAnswer, AnswerOpens, AnswerLong, AnswerBad, Answered, IsAnswer, one_answer}
 
 -- a request at the beginning of some bytes
 pub data Ask : Type 0 where
@@ -20,14 +21,6 @@ pub data Ask : Type 0 where
   AskFull : RequestText → Ask
   Asked : RequestText → (rest : List ℕ) → Ask
 
--- a response at the beginning of some bytes
-pub data Answer : Type 0 where
-  NoAnswer : Answer
-  AnswerOpens : Answer
-  AnswerLong : Answer
-  AnswerBad : (head : List ℕ) → BadKind → Answer
-  Answered : ResponseText → (rest : List ℕ) → Answer
-
 abbrev pub IsAsk : States → List ℕ → Ask → Type 0
 IsAsk table l AskOpens = view l ≡ Opens
 IsAsk table l AskLong = view l ≡ Longs
@@ -36,14 +29,6 @@ IsAsk table l (AskFull r) =
     (rest : List ℕ) × (view l ≡ Stands r.bytes rest) × ReadsRequestHead r.bytes (Ok r.asks) × IsRefusedId table (id_of r.asks)
 IsAsk table l (Asked r rest) =
     (view l ≡ Stands r.bytes rest) × ReadsRequestHead r.bytes (Ok r.asks) × (IsRefusedId table (id_of r.asks) → ⊥)
-
-abbrev pub IsAnswer : (to_head : Bool) → List ℕ → Answer → Type 0
-IsAnswer to_head l NoAnswer = ⊥
-IsAnswer to_head l AnswerOpens = view l ≡ Opens
-IsAnswer to_head l AnswerLong = view l ≡ Longs
-IsAnswer to_head l (AnswerBad head kind) =
-    (rest : List ℕ) × (view l ≡ Stands head rest) × ReadsResponseHead head to_head (Err kind)
-IsAnswer to_head l (Answered r rest) = (view l ≡ Stands r.bytes rest) × IsResponseHead to_head r
 
 -- the response is looked at only after a good request
 abbrev pub OnlyFills : Ask → Answer → Type 0
@@ -96,33 +81,6 @@ one_ask table l (Asked r rest) (Asked q others) x y =
     let same : r.bytes ≡ q.bytes = cc in
     let after : rest ≡ others = cc in
     let request : r ≡ q = request_by r q same (same_asks r q same x.1 y.1) in cc
-
--- ---- one response
-
-clash_answer : (head : List ℕ) (k : BadKind) (r : ResponseText) (to_head : Bool) → head ≡ r.bytes
-    → ReadsResponseHead head to_head (Err k) → IsResponseHead to_head r → ⊥
-clash_answer head k r to_head same x y =
-    response_or_bad r to_head k y (subst (λ b. ReadsResponseHead b to_head (Err k)) same x)
-
-pub one_answer : (to_head : Bool) (l : List ℕ) (a b : Answer) → IsAnswer to_head l a → IsAnswer to_head l b → a ≡ b
-one_answer to_head l NoAnswer _ x y = absurd x
-one_answer to_head l _ NoAnswer x y = absurd y
-one_answer to_head l AnswerOpens AnswerOpens x y = refl
-one_answer to_head l AnswerOpens _ x y = absurd (cc)
-one_answer to_head l AnswerLong AnswerLong x y = refl
-one_answer to_head l AnswerLong _ x y = absurd (cc)
-one_answer to_head l _ AnswerOpens x y = absurd (cc)
-one_answer to_head l _ AnswerLong x y = absurd (cc)
-one_answer to_head l (AnswerBad head kind) (AnswerBad text other) x y =
-    let same : head ≡ text = cc in
-    let kinds : kind ≡ other =
-    bad_response_once head to_head kind other x.2 (subst (λ b. ReadsResponseHead b to_head (Err other)) (sym same) y.2) in cc
-one_answer to_head l (AnswerBad head kind) (Answered q rest) x y = absurd (clash_answer head kind q to_head (cc) x.2 y.1)
-one_answer to_head l (Answered r rest) (AnswerBad head kind) x y = absurd (clash_answer head kind r to_head (cc) y.2 x.1)
-one_answer to_head l (Answered r rest) (Answered q others) x y =
-    let same : r.bytes ≡ q.bytes = cc in
-    let after : rest ≡ others = cc in
-    let response : r ≡ q = response_once to_head r q same x.1 y.1 in cc
 
 -- after one request
 one_after : (ask : Ask) (a b : Answer) → OnlyFills ask a → OnlyFills ask b → a ≡ b
@@ -177,10 +135,6 @@ start_of_heads table h rest are = record {
   asks = asked table h.request (h.response.bytes ++ rest) are.request;
   answers = (view-stands h.response.bytes rest are.response.text, are.response);
 }
-
--- an open head, of which nothing follows
-opens : (head more : List ℕ) → more ≡ [] → IsOpenHead head → view (head ++ more) ≡ Opens
-opens head more none h = ap view (ap (λ l. head ++ l) none ∙ append-nil head) ∙ view-open head h
 
 pub start_of_tail : (table : States) (t : Tail) (more : List ℕ) → IsTail table t
     → (is_open t ≡ true → more ≡ []) → IsStart table (spell_tail t more) (ask_of t more) (answer_of t more)

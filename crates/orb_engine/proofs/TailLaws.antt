@@ -3,15 +3,15 @@ use Rattle.std.proofs.Common.{◌≡◌, ℕ, ◌+◌, Bool, true, List, [], ◌
 use Rattle.std.proofs.lemmas.List.{append-nil, append_cancel_left, length-append}
 use Rattle.media_state.specs.Table.{States}
 use Rattle.http_exchange.specs.Frames.{IsBodyPrefix, IsWhole}
-use Rattle.http_exchange.proofs.UnframerLemmas.{one_prefix, last_byte}
+use Rattle.http_exchange.proofs.UnframerLemmas.{one_prefix}
 use Rattle.orb_engine.specs.declared.settings.Settings.{Settings}
 use Rattle.exchanges.specs.Heads.{Heads}
 use Rattle.orb_engine.specs.Recording as cut
-use Rattle.orb_engine.specs.Recording.{Exchange, Tail, IsExchange, IsTail, IsOpenBody, IsBadBody, spell_exchange, spell_tail, is_open}
+use Rattle.orb_engine.specs.Recording.{Tail, IsTail, IsOpenBody, IsBadBody, spell_tail, is_open}
 use Rattle.orb_engine.specs.Ends.{Bad, HeadLimit, stop_at}
 use Rattle.orb_engine.specs.Outputs.{written_tail}
 use Rattle.orb_engine.specs.Counts.{rules_of_tail}
-use Rattle.orb_engine.proofs.BodyLaws.{within_stuck}
+use Rattle.exchanges.proofs.BodyLaws.{whole_not_open, whole_not_stuck, open_not_stuck, same_stuck}
 use Rattle.orb_engine.proofs.StartLaws.{IsStart, one_start, ask_of, answer_of, start_of_tail, same_heads}
 
 -- two tails of which the same is answered
@@ -32,25 +32,17 @@ same_alike s t u e = record {
 -- a whole body isn't one that may go on
 pub whole_not_sending : (table : States) (h : Heads) (m r n c : List ℕ)
     → IsWhole h.response.frame m → IsOpenBody table h n c → m ++ r ≡ n → ⊥
-whole_not_sending table h m r n c whole y e =
-    let f = h.response.frame in
-    let none : r ≡ [] = last_byte f m r c whole (subst (λ l. IsBodyPrefix f l c) (sym e) y.prefix) in
-    y.unfinished (subst (IsWhole f) (sym (append-nil m) ∙ ap (λ l. m ++ l) (sym none) ∙ e) whole)
+whole_not_sending table h m r n c whole y e = whole_not_open h.response.frame m r n c whole y.prefix y.unfinished e
 
 pub whole_not_bad : (table : States) (h : Heads) (m r n q g c : List ℕ) (b : ℕ)
     → IsWhole h.response.frame m → IsBodyPrefix h.response.frame m g → IsBadBody table h n c b
     → m ++ r ≡ n ++ (b ∷ q) → ⊥
 whole_not_bad table h m r n q g c b whole x y e =
-    let k = within_stuck h.response.frame m r n q g b y.bad x e in
-    whole_not_sending table h m k.0 n c whole y.sending (sym k.1)
+    whole_not_stuck h.response.frame m r n q g c b whole x y.sending.prefix y.sending.unfinished y.bad e
 
 sending_not_bad : (table : States) (h : Heads) (m n q g c : List ℕ) (b : ℕ)
     → IsOpenBody table h m g → IsBadBody table h n c b → m ≡ n ++ (b ∷ q) → ⊥
-sending_not_bad table h m n q g c b x y e =
-    let k = within_stuck h.response.frame m [] n q g b y.bad x.prefix (append-nil m ∙ e) in
-    let long : length m ≡ length n + length (b ∷ q) = ap length e ∙ length-append n (b ∷ q) in
-    let short : length n ≡ length m + length k.0 = ap length k.1 ∙ length-append m k.0 in
-    absurd (omega (arith, long, short))
+sending_not_bad table h m n q g c b x y e = open_not_stuck h.response.frame m n q g b x.prefix y.bad e
 
 same_sending : (table : States) (h : Heads) (m n g c : List ℕ) → IsOpenBody table h m g → IsOpenBody table h n c
     → m ≡ n → cut.InBody h m g ≡ cut.InBody h n c
@@ -62,21 +54,12 @@ same_bad : (table : States) (h : Heads) (m r n q g c : List ℕ) (b d : ℕ) →
     → IsBadBody table h n c d → m ++ (b ∷ r) ≡ n ++ (d ∷ q) → cut.BadBody h m g b ≡ cut.BadBody h n c d
 same_bad table h m r n q g c b d x y e =
     let f = h.response.frame in
-    let k = within_stuck f m (b ∷ r) n q g d y.bad x.sending.prefix e in
-    let l = within_stuck f n (d ∷ q) m r c b x.bad y.sending.prefix (sym e) in
-    let up : length n ≡ length m + length k.0 = ap length k.1 ∙ length-append m k.0 in
-    let down : length m ≡ length n + length l.0 = ap length l.1 ∙ length-append n l.0 in
-    let none : length k.0 ≡ 0 = omega (arith, up, down) in
-    let same : m ≡ n = sym (k.1 ∙ ap (λ z. m ++ z) (is_nil k.0 none) ∙ append-nil m) in
-    let contents : g ≡ c =
-    one_prefix f m g c x.sending.prefix (subst (λ z. IsBodyPrefix f z c) (sym same) y.sending.prefix) in
+    let both = same_stuck f m r n q g c b d x.bad y.bad x.sending.prefix y.sending.prefix e in
+    let same : m ≡ n = both.0 in
+    let contents : g ≡ c = both.1 in
     let rests : b ∷ r ≡ d ∷ q = append_cancel_left m (b ∷ r) (d ∷ q) (e ∙ ap (λ z. z ++ (d ∷ q)) (sym same)) in
     let bytes : b ≡ d = cc in
     cc
-  where
-    is_nil : (z : List ℕ) → length z ≡ 0 → z ≡ []
-    is_nil [] h = refl
-    is_nil (a ∷ z) h = absurd (omega (arith, h))
 
 -- ---- two tails that begin the same bytes
 

@@ -2,6 +2,7 @@
 -- each other, and by the job `Explain` a line for each whole exchange.
 use Rattle.std.specs.Prelude.{ℕ, ◌+◌, Bool, true, false, ◌&&◌, List, [], ◌∷◌, ◌++◌, length, if◌then◌else◌, codes, decimal}
 use Rattle.std.specs.FinMap as map
+use Rattle.orb_bytes.specs.Ascii.{space, line_feed}
 use Rattle.media_state.specs.Table.{States}
 use Rattle.media_state.specs.declared.states.MediaState.{MediaState}
 use Rattle.media_state.specs.States.{name_of as state_name}
@@ -26,10 +27,10 @@ verdict_name false = codes "block"
 -- and how long its body is
 unfoldable pub line_of : (number : ℕ) → Rule → MediaState → (length_ : ℕ) → List ℕ
 line_of number rule state length_ =
-    decimal number ++ (32 ∷ (verdict_name (is_allowing rule)
-    ++ (32 ∷ (name_of rule
-    ++ (32 ∷ (state_name state
-    ++ (32 ∷ (decimal length_ ++ (10 ∷ [])))))))))
+    decimal number ++ (space ∷ (verdict_name (is_allowing rule)
+    ++ (space ∷ (name_of rule
+    ++ (space ∷ (state_name state
+    ++ (space ∷ (decimal length_ ++ (line_feed ∷ [])))))))))
 
 -- the line of a response that the rule decides
 abbrev pub line_by : (number : ℕ) → Response → (length_ : ℕ) → Rule → List ℕ

@@ -11,12 +11,9 @@ use Rattle.orb_engine.specs.Ends.{End, Open, stop_of}
 use Rattle.orb_engine.specs.Outputs.{output_of, written_exchanges}
 use Rattle.orb_engine.specs.Counts.{rules_of, rules_of_exchanges, count_allowed, count_blocked}
 use Rattle.orb_io.specs.Outboxes.{empty_outbox}
+use Rattle.orb_io.specs.declared.pulling.TheConstants.{MOST_OF_A_RUN}
 use Rattle.orb_engine.specs.Writing.{box_of}
 use Rattle.orb_engine.specs.Reads.{Reads, IsStop, HaltCause}
-
--- the most bytes that one run takes
-unfoldable pub run_limit : ℕ
-run_limit = 2 ^ 62
 
 abbrev pub settings_of : Engine → Settings
 settings_of e = e.writer.settings
@@ -101,7 +98,7 @@ abbrev pub RunAnswers : EngineOutcome → Engine → Settings → (read : List �
 RunAnswers outcome.ReadFault e s read ended given = (ended ≡ false) × Ends e s read false (λ stop. stop ≡ Open) given
 RunAnswers outcome.WriteFault e s read ended given = Fails e s read ended given
 RunAnswers outcome.Endless e s read ended given =
-    (run_limit < length read) × (ended ≡ false) × Ends e s (take run_limit read) false (λ stop. stop ≡ Open) given
+    (MOST_OF_A_RUN < length read) × (ended ≡ false) × Ends e s (take MOST_OF_A_RUN read) false (λ stop. stop ≡ Open) given
 RunAnswers o e s read ended given = Ends e s read ended (IsStop o) given
 
 -- The bytes that the source lost, whether the input has ended, and what the answer says of what the sink was given.
@@ -111,7 +108,7 @@ pub record Ran (o : EngineOutcome) (e : Engine) (s : Settings) (left left' : Opt
   pub ended : Bool
   pub lost : Loses left left' read
   pub at_end : ended ≡ true → IsAtEnd left'
-  pub fits : (o ≡ outcome.Endless → ⊥) → length read ≤ run_limit
+  pub fits : (o ≡ outcome.Endless → ⊥) → length read ≤ MOST_OF_A_RUN
   pub answers : RunAnswers o e s read ended given
 
 -- A read fault comes only where the source's count rose, a write fault only where the sink's did. Every

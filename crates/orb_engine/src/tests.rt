@@ -5,6 +5,9 @@ ghost use Rattle.std.proofs.Math.Nat.{min-le_right as min_le_right};
 ghost use Rattle.orb_io.specs.Told.{told_bytes};
 ghost use Rattle.orb_engine.specs.Runs.{taken_by, CanFeed};
 
+mod faults;
+mod limits;
+
 use crate::{Engine, EngineOutcome, Job, Settings};
 use orb_bytes::decimal;
 use orb_io::{Duplex, Failed, MemoryLink, MemorySink, MemorySource, Sink, Source};
@@ -92,54 +95,109 @@ fn pass(engine: &mut Engine, recording: &[u8], size: usize, sink: &mut MemorySin
     }
 }
 
+/// The parts of a recording, what is done, the end, how many were allowed and blocked, and what is written.
+type Passed = (
+    &'static [&'static [u8]],
+    Job,
+    EngineOutcome,
+    (u64, u64),
+    &'static [&'static [u8]],
+);
+
+static PASSED: [Passed; 4] = [
+    (
+        &[REQUEST, PNG, REQUEST, HTML, b"x"],
+        Job::Filter,
+        EngineOutcome::Done,
+        (1, 1),
+        &[PNG, REPLY],
+    ),
+    (
+        &[REQUEST, PNG, REQUEST, HTML, b"x"],
+        Job::Explain,
+        EngineOutcome::Done,
+        (1, 1),
+        &[b"1 allow image na 8\n2 block nosniff-blocklisted na 4\n"],
+    ),
+    (
+        &[REQUEST, PNG, REQUEST, HTML],
+        Job::Filter,
+        EngineOutcome::Cut { place: 114 },
+        (1, 0),
+        &[PNG],
+    ),
+    (
+        &[AUDIO, OGG, AUDIO, LATER],
+        Job::Explain,
+        EngineOutcome::Done,
+        (2, 0),
+        &[b"1 allow media subsequent:9 5\n2 allow subsequent subsequent:9 4\n"],
+    ),
+];
+
+/// The same, of a recording of at most 1,024 bytes, and the sink after it.
+fn pass_all(
+    alloc: Global,
+    engine: &mut Engine,
+    recording: &[u8],
+    size: usize,
+) -> Result<(EngineOutcome, MemorySink), Fail> {
+    let mut sink = MemorySink::open(alloc, 1024, Vec::new(alloc))?;
+    let first = recording.get(..1024).unwrap_or(recording);
+    let outcome = pass(engine, first, size.max(1), &mut sink);
+    Ok((outcome, sink))
+}
+
+/// A run over the recording, and the sink after it.
+fn run_all(
+    alloc: Global,
+    engine: &mut Engine,
+    recording: Vec<u8>,
+) -> Result<(EngineOutcome, MemorySink), Fail> {
+    let mut source = MemorySource::new(recording, 50, Vec::new(alloc));
+    let mut sink = MemorySink::open(alloc, 1024, Vec::new(alloc))?;
+    let outcome = engine.run(&mut source, &mut sink);
+    Ok((outcome, sink))
+}
+
+/// Passes the row in pieces of that size.
+fn passes(
+    rt: &impl Abort,
+    alloc: Global,
+    engine: &mut Engine,
+    row: &Passed,
+    size: usize,
+) -> Result<(), Fail> {
+    let (parts, job, owed, counts, writes) = *row;
+    let recording = joined(alloc, parts)?;
+    let want = joined(alloc, writes)?;
+    let (outcome, sink) = pass_all(alloc, engine, &recording, size)?;
+    assert_eq!(rt; outcome, owed, "{job:?}");
+    assert_eq!(rt; (engine.allowed(), engine.blocked()), counts, "{job:?}");
+    assert_eq!(rt; sink.bytes(), want.as_slice(), "{job:?}");
+    Ok(())
+}
+
+/// Runs the row.
+fn runs(rt: &impl Abort, alloc: Global, engine: &mut Engine, row: &Passed) -> Result<(), Fail> {
+    let (parts, job, owed, _, writes) = *row;
+    let recording = joined(alloc, parts)?;
+    let want = joined(alloc, writes)?;
+    let (outcome, sink) = run_all(alloc, engine, recording)?;
+    assert_eq!(rt; outcome, owed, "{job:?}");
+    assert_eq!(rt; sink.bytes(), want.as_slice(), "{job:?}");
+    Ok(())
+}
+
 #[test]
 fn exchanges_are_filtered_and_explained_in_every_cutting(rt: HostRuntime) -> Result<(), Fail> {
     let alloc = rt.alloc();
-    let two: [&[u8]; 5] = [REQUEST, PNG, REQUEST, HTML, b"x"];
-    let cut: [&[u8]; 4] = [REQUEST, PNG, REQUEST, HTML];
-    let media: [&[u8]; 4] = [AUDIO, OGG, AUDIO, LATER];
-    let lines = b"1 allow image na 8\n2 block nosniff-blocklisted na 4\n";
-    // the parts of a recording, what is done, the end, how many were allowed and blocked, and what is written
-    let rows: [(&[&[u8]], Job, EngineOutcome, (u64, u64), &[&[u8]]); 4] = [
-        (
-            &two,
-            Job::Filter,
-            EngineOutcome::Done,
-            (1, 1),
-            &[PNG, REPLY],
-        ),
-        (&two, Job::Explain, EngineOutcome::Done, (1, 1), &[lines]),
-        (
-            &cut,
-            Job::Filter,
-            EngineOutcome::Cut { place: 114 },
-            (1, 0),
-            &[PNG],
-        ),
-        (
-            &media,
-            Job::Explain,
-            EngineOutcome::Done,
-            (2, 0),
-            &[b"1 allow media subsequent:9 5\n2 allow subsequent subsequent:9 4\n"],
-        ),
-    ];
-    for (parts, job, owed, counts, writes) in rows {
-        let recording = joined(alloc, parts)?;
-        let want = joined(alloc, writes)?;
-        assert!(rt; recording.len() <= 1024);
-        let mut engine = Engine::open(alloc, settings(job, Policy::Orb))?;
+    for row in &PASSED {
+        let mut engine = Engine::open(alloc, settings(row.1, Policy::Orb))?;
         for size in [1, 7, 1024] {
-            let mut sink = MemorySink::open(alloc, 1024, Vec::new(alloc))?;
-            let outcome = pass(&mut engine, &recording, size, &mut sink);
-            assert_eq!(rt; outcome, owed, "{job:?}");
-            assert_eq!(rt; (engine.allowed(), engine.blocked()), counts, "{job:?}");
-            assert_eq!(rt; sink.bytes(), want.as_slice(), "{job:?}");
+            passes(&rt, alloc, &mut engine, row, size)?;
         }
-        let mut source = MemorySource::new(recording, 50, Vec::new(alloc));
-        let mut sink = MemorySink::open(alloc, 1024, Vec::new(alloc))?;
-        assert_eq!(rt; engine.run(&mut source, &mut sink), owed, "{job:?}");
-        assert_eq!(rt; sink.bytes(), want.as_slice(), "{job:?}");
+        runs(&rt, alloc, &mut engine, row)?;
     }
     Ok(())
 }
@@ -161,7 +219,7 @@ type Judged = (
     &'static [u8],
 );
 
-const JUDGED: &[Judged] = &[
+static JUDGED: [Judged; 8] = [
     (
         Policy::Orb,
         UNKNOWN,
@@ -280,7 +338,7 @@ fn judge(rt: &impl Abort, alloc: Global, row: &Judged, piece: usize) -> Result<(
 
 #[test]
 fn responses_are_judged_by_the_policy_up_to_the_limit(rt: HostRuntime) -> Result<(), Fail> {
-    for row in JUDGED {
+    for row in &JUDGED {
         judge(&rt, rt.alloc(), row, 1)?;
         judge(&rt, rt.alloc(), row, 4096)?;
     }
@@ -405,7 +463,7 @@ const LONG_IMAGE_LINE: &[u8] = b"1 allow image na 2097158\n";
 
 /// What is owed of a long image at each pull: from the window on its bytes where it is filtered, and its line
 /// after its last byte where it is explained.
-const LONG_IMAGE: [(Job, &[Owed]); 2] = [
+static LONG_IMAGE: [(Job, &[Owed]); 2] = [
     (
         Job::Filter,
         &[Owed {
@@ -464,8 +522,8 @@ fn watch_long_image(
 #[test]
 fn a_long_image_goes_out_from_its_window_on(rt: HostRuntime) -> Result<(), Fail> {
     for piece in [1, 7, 100, 4_194_304] {
-        for (job, owed) in LONG_IMAGE {
-            watch_long_image(&rt, rt.alloc(), job, piece, owed)?;
+        for (job, owed) in &LONG_IMAGE {
+            watch_long_image(&rt, rt.alloc(), *job, piece, *owed)?;
         }
     }
     Ok(())
@@ -526,7 +584,7 @@ type Watched = (
 
 /// An image goes out from its window on. Of a coded body nothing goes out, and the reply after its last byte. A body that is
 /// read as text waits for its end, and longer than the limit for its reply.
-const WATCHED: &[Watched] = &[
+static WATCHED: [Watched; 4] = [
     (
         b"HTTP/1.1 200 OK\r\nContent-Length: 20006\r\n\r\n",
         b"GIF89a",
@@ -591,7 +649,7 @@ fn filter_watched(rt: &impl Abort, alloc: Global, row: &Watched) -> Result<(), F
 
 #[test]
 fn what_is_owed_was_put_at_each_pull(rt: HostRuntime) -> Result<(), Fail> {
-    for row in WATCHED {
+    for row in &WATCHED {
         filter_watched(&rt, rt.alloc(), row)?;
     }
     Ok(())

@@ -1,6 +1,6 @@
 -- What begins a body and what doesn't, over two cuttings of the same bytes.
-use Rattle.std.proofs.Common.{◌≡◌, ℕ, List, [], ◌∷◌, ◌++◌, ◌⊎◌, inl, inr, refl, sym, ap, subst, ◌∙◌, append_assoc}
-use Rattle.std.proofs.lemmas.List.{append-nil}
+use Rattle.std.proofs.Common.{◌≡◌, ℕ, ◌+◌, List, [], ◌∷◌, ◌++◌, ◌⊎◌, inl, inr, refl, sym, ap, subst, ◌∙◌, arith, append_assoc, length}
+use Rattle.std.proofs.lemmas.List.{append-nil, length-append}
 use Rattle.http_exchange.specs.Frames.{IsBodyPrefix, IsWhole}
 use Rattle.http_exchange.specs.declared.frames.BodyFrame.{BodyFrame}
 use Rattle.http_exchange.proofs.UnframerLemmas.{one_prefix, shorter_prefix, last_byte}
@@ -68,3 +68,40 @@ same_whole f m r n q g h v w x y e =
           let none : k.more ≡ [] = last_byte f n k.more g w (subst (λ l. IsBodyPrefix f l g) k.prefix x) in
           k.prefix ∙ ap (λ l. n ++ l) none ∙ append-nil n
     ]
+
+-- a whole body doesn't go on
+pub whole_not_open : (f : BodyFrame) (m r n c : List ℕ) → IsWhole f m → IsBodyPrefix f n c → (IsWhole f n → ⊥) → m ++ r ≡ n → ⊥
+whole_not_open f m r n c whole y unfinished e =
+    let none : r ≡ [] = last_byte f m r c whole (subst (λ l. IsBodyPrefix f l c) (sym e) y) in
+    unfinished (subst (IsWhole f) (sym (append-nil m) ∙ ap (λ l. m ++ l) (sym none) ∙ e) whole)
+
+-- ---- bodies with a byte that doesn't follow
+
+pub whole_not_stuck : (f : BodyFrame) (m r n q g c : List ℕ) (b : ℕ) → IsWhole f m → IsBodyPrefix f m g → IsBodyPrefix f n c
+    → (IsWhole f n → ⊥) → IsStuck f n b → m ++ r ≡ n ++ (b ∷ q) → ⊥
+whole_not_stuck f m r n q g c b whole x y unfinished stuck e =
+    let k = within_stuck f m r n q g b stuck x e in
+    whole_not_open f m k.0 n c whole y unfinished (sym k.1)
+
+pub open_not_stuck : (f : BodyFrame) (m n q g : List ℕ) (b : ℕ) → IsBodyPrefix f m g → IsStuck f n b → m ≡ n ++ (b ∷ q) → ⊥
+open_not_stuck f m n q g b x stuck e =
+    let k = within_stuck f m [] n q g b stuck x (append-nil m ∙ e) in
+    let long : length m ≡ length n + length (b ∷ q) = ap length e ∙ length-append n (b ∷ q) in
+    let short : length n ≡ length m + length k.0 = ap length k.1 ∙ length-append m k.0 in
+    absurd (omega (arith, long, short))
+
+-- two such bodies of the same bytes
+pub same_stuck : (f : BodyFrame) (m r n q g c : List ℕ) (b d : ℕ) → IsStuck f m b → IsStuck f n d → IsBodyPrefix f m g
+    → IsBodyPrefix f n c → m ++ (b ∷ r) ≡ n ++ (d ∷ q) → (m ≡ n) × (g ≡ c)
+same_stuck f m r n q g c b d first second x y e =
+    let k = within_stuck f m (b ∷ r) n q g d second x e in
+    let l = within_stuck f n (d ∷ q) m r c b first y (sym e) in
+    let up : length n ≡ length m + length k.0 = ap length k.1 ∙ length-append m k.0 in
+    let down : length m ≡ length n + length l.0 = ap length l.1 ∙ length-append n l.0 in
+    let none : length k.0 ≡ 0 = omega (arith, up, down) in
+    let same : m ≡ n = sym (k.1 ∙ ap (λ z. m ++ z) (is_nil k.0 none) ∙ append-nil m) in
+    (same, one_prefix f m g c x (subst (λ z. IsBodyPrefix f z c) (sym same) y))
+  where
+    is_nil : (z : List ℕ) → length z ≡ 0 → z ≡ []
+    is_nil [] h = refl
+    is_nil (a ∷ z) h = absurd (omega (arith, h))

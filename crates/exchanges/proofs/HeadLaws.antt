@@ -1,25 +1,23 @@
 -- What the bytes at the beginning of a list are: the first bytes of a head, too many for a head, or a head; and
 -- that a head is read in one way.
-use Rattle.std.proofs.Common.{◌≡◌, ℕ, ◌<◌, ◌≤◌, Bool, true, false, cond, nat_lt, nat_le, List, ◌++◌, length, take, drop, bytes_eq, codes, Option, Some, None, Result, Ok, Err, inl, inr, refl, sym, ap, subst, ◌∙◌, arith}
-use Rattle.std.proofs.lemmas.Bool.{cases_Bool}
+use Rattle.std.proofs.Common.{◌≡◌, ℕ, ◌<◌, ◌≤◌, Bool, true, false, cond, nat_lt, nat_le, List, [], ◌++◌, length, take, drop, Option, Some, None, Result, Ok, Err, inl, inr, refl, sym, ap, subst, ◌∙◌, arith}
 use Rattle.std.proofs.lemmas.Bool.Decides.{nat_tests}
-use Rattle.std.proofs.lemmas.List.{take-append-le, take-append-drop, length-append}
-use Rattle.std.proofs.lemmas.Option.{none-some}
+use Rattle.std.proofs.lemmas.List.{append-nil, length-append}
 use Rattle.std.proofs.Math.Seq.{take-append_seam, drop-append_seam}
 use Rattle.httparse.specs.Grammar.{status_code}
-use Rattle.httparse.proofs.GrammarLemmas.{request_unique, response_unique}
+use Rattle.httparse.proofs.GrammarLemmas.{response_unique}
 use Rattle.response_rules.specs.Heads.{HasEssence}
 use Rattle.response_rules.proofs.EssenceLemmas.{one_essence}
 use Rattle.http_exchange.specs.Head.{head_length}
 use Rattle.http_exchange.specs.Heads.{IsResponse}
 use Rattle.http_exchange.specs.Fields.{pairs_of}
 use Rattle.http_exchange.specs.Reading.{ReadsRequestHead, ReadsResponseHead}
-use Rattle.http_exchange.specs.RequestFields.{request_of}
 use Rattle.http_exchange.specs.ResponseFields.{frame_of}
 use Rattle.http_exchange.specs.declared.frames.BodyFrame.{BodyFrame}
 use Rattle.http_exchange.specs.declared.refusals.BadKind.{BadKind}
 use Rattle.http_exchange.specs.declared.request.RequestHead.{RequestHead}
-use Rattle.http_exchange.proofs.EndLemmas.{head_length-stays, head_length-alone}
+use Rattle.http_exchange.proofs.EndLemmas.{head_length-stays}
+use Rattle.http_exchange.proofs.ReadingLemmas.{ends_after, request_once, same_Err, no_Ok, bad_response_once}
 use Rattle.http_exchange.specs.HeadTexts.{head_limit, IsHeadText, IsOpenHead, IsLongHead}
 use Rattle.exchanges.specs.Heads.{ResponseText, IsResponseHead}
 
@@ -50,20 +48,6 @@ view-stands text rest h =
     ap (view_by (text ++ rest)) (head_length-stays text rest (length text) h.ends)
     ∙ rw (fits, take-append_seam text rest, drop-append_seam text rest) refl
 
--- a head doesn't end in bytes that hold no empty line
-ends_after : (prefix rest : List ℕ) (n : ℕ) → head_length prefix ≡ None → head_length (prefix ++ rest) ≡ Some n → length prefix < n
-ends_after prefix rest n open_ ends =
-    elim (cases_Bool (nat_le n (length prefix))) [
-      | inl within ↦
-          let less : n ≤ length prefix = grind (arith, nat_tests, within) in
-          let alone : head_length (take n prefix) ≡ Some n =
-          ap head_length (sym (take-append-le n prefix rest less)) ∙ head_length-alone (prefix ++ rest) n ends in
-          let here : head_length prefix ≡ Some n =
-          ap head_length (sym (take-append-drop n prefix)) ∙ head_length-stays (take n prefix) (drop n prefix) n alone in
-          absurd (none-some n (sym open_ ∙ here))
-      | inr after ↦ grind (arith, nat_tests, after)
-    ]
-
 long_by : (l : List ℕ) (o : Option ℕ) → head_limit ≤ length l → ((n : ℕ) → o ≡ Some n → head_limit < n) → view_by l o ≡ Longs
 unfolding view_by
 long_by l None long after =
@@ -81,23 +65,8 @@ view-long prefix rest h =
 
 -- ---- readings
 
-pub request_once : (head : List ℕ) (a b : Result RequestHead BadKind) → ReadsRequestHead head a → ReadsRequestHead head b → a ≡ b
-request_once head a b (inl x) (inl y) = x.1 ∙ sym y.1
-request_once head a b (inl x) (inr y) = absurd (x.0 y.0 y.1)
-request_once head a b (inr x) (inl y) = absurd (y.0 x.0 x.1)
-request_once head a b (inr x) (inr y) =
-    x.2
-    ∙ ap (λ h. request_of (bytes_eq h.method (codes "HEAD")) (pairs_of h.fields)) (request_unique head x.0 y.0 _ _ x.1.0 y.1.0).0
-    ∙ sym y.2
-
 same_Ok : (f g : BodyFrame) → ◌≡◌ {A = Result BodyFrame BadKind} (Ok f) (Ok g) → f ≡ g
 same_Ok f g e = cc
-
-same_Err : {T : Type 0} (k l : BadKind) → ◌≡◌ {A = Result T BadKind} (Err k) (Err l) → k ≡ l
-same_Err k l e = cc
-
-no_Ok : (f : BodyFrame) (k : BadKind) → ◌≡◌ {A = Result BodyFrame BadKind} (Ok f) (Err k) → ⊥
-no_Ok f k e = cc
 
 pub ask_once : (head : List ℕ) (a b : RequestHead) → ReadsRequestHead head (Ok a) → ReadsRequestHead head (Ok b) → a ≡ b
 ask_once head a b x y = let e : ◌≡◌ {A = Result RequestHead BadKind} (Ok a) (Ok b) = request_once head (Ok a) (Ok b) x y in cc
@@ -129,15 +98,6 @@ response_once to_head r q same x y =
     same_response r.bytes q.bytes r.status q.status r.fields q.fields r.essence q.essence r.frame q.frame
     same status fields essence frame
 
-pub bad_response_once : (head : List ℕ) (to_head : Bool) (k l : BadKind) → ReadsResponseHead head to_head (Err k)
-    → ReadsResponseHead head to_head (Err l) → k ≡ l
-bad_response_once head to_head k l (inl x) (inl y) = same_Err k l (x.1 ∙ sym y.1)
-bad_response_once head to_head k l (inl x) (inr y) = absurd (x.0 y.0 y.1)
-bad_response_once head to_head k l (inr x) (inl y) = absurd (y.0 x.0 x.1)
-bad_response_once head to_head k l (inr x) (inr y) =
-    same_Err k l
-    (sym x.2 ∙ ap (λ h. frame_of to_head (status_code h) (pairs_of h.fields)) (response_unique head x.0 y.0 _ _ x.1.0 y.1.0).0 ∙ y.2)
-
 pub response_or_bad : (r : ResponseText) (to_head : Bool) (k : BadKind) → IsResponseHead to_head r → ReadsResponseHead r.bytes to_head (Err k) → ⊥
 response_or_bad r to_head k x (inl y) = y.0 x.tree x.reads
 response_or_bad r to_head k x (inr y) =
@@ -147,3 +107,50 @@ response_or_bad r to_head k x (inr y) =
     ∙ ap (frame_of to_head (status_code x.tree)) x.fields
     ∙ ap (λ h. frame_of to_head (status_code h) (pairs_of h.fields)) (response_unique r.bytes x.tree y.0 _ _ x.reads.0 y.1.0).0
     ∙ y.2)
+
+-- an open head, of which nothing follows
+pub opens : (head more : List ℕ) → more ≡ [] → IsOpenHead head → view (head ++ more) ≡ Opens
+opens head more none h = ap view (ap (λ l. head ++ l) none ∙ append-nil head) ∙ view-open head h
+
+-- ---- one response
+
+-- a response at the beginning of some bytes
+pub data Answer : Type 0 where
+  NoAnswer : Answer
+  AnswerOpens : Answer
+  AnswerLong : Answer
+  AnswerBad : (head : List ℕ) → BadKind → Answer
+  Answered : ResponseText → (rest : List ℕ) → Answer
+
+abbrev pub IsAnswer : (to_head : Bool) → List ℕ → Answer → Type 0
+IsAnswer to_head l NoAnswer = ⊥
+IsAnswer to_head l AnswerOpens = view l ≡ Opens
+IsAnswer to_head l AnswerLong = view l ≡ Longs
+IsAnswer to_head l (AnswerBad head kind) =
+    (rest : List ℕ) × (view l ≡ Stands head rest) × ReadsResponseHead head to_head (Err kind)
+IsAnswer to_head l (Answered r rest) = (view l ≡ Stands r.bytes rest) × IsResponseHead to_head r
+
+clash_answer : (head : List ℕ) (k : BadKind) (r : ResponseText) (to_head : Bool) → head ≡ r.bytes
+    → ReadsResponseHead head to_head (Err k) → IsResponseHead to_head r → ⊥
+clash_answer head k r to_head same x y =
+    response_or_bad r to_head k y (subst (λ b. ReadsResponseHead b to_head (Err k)) same x)
+
+pub one_answer : (to_head : Bool) (l : List ℕ) (a b : Answer) → IsAnswer to_head l a → IsAnswer to_head l b → a ≡ b
+one_answer to_head l NoAnswer _ x y = absurd x
+one_answer to_head l _ NoAnswer x y = absurd y
+one_answer to_head l AnswerOpens AnswerOpens x y = refl
+one_answer to_head l AnswerOpens _ x y = absurd (cc)
+one_answer to_head l AnswerLong AnswerLong x y = refl
+one_answer to_head l AnswerLong _ x y = absurd (cc)
+one_answer to_head l _ AnswerOpens x y = absurd (cc)
+one_answer to_head l _ AnswerLong x y = absurd (cc)
+one_answer to_head l (AnswerBad head kind) (AnswerBad text other) x y =
+    let same : head ≡ text = cc in
+    let kinds : kind ≡ other =
+    bad_response_once head to_head kind other x.2 (subst (λ b. ReadsResponseHead b to_head (Err other)) (sym same) y.2) in cc
+one_answer to_head l (AnswerBad head kind) (Answered q rest) x y = absurd (clash_answer head kind q to_head (cc) x.2 y.1)
+one_answer to_head l (Answered r rest) (AnswerBad head kind) x y = absurd (clash_answer head kind r to_head (cc) y.2 x.1)
+one_answer to_head l (Answered r rest) (Answered q others) x y =
+    let same : r.bytes ≡ q.bytes = cc in
+    let after : rest ≡ others = cc in
+    let response : r ≡ q = response_once to_head r q same x.1 y.1 in cc
