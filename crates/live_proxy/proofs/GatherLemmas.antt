@@ -1,5 +1,5 @@
 -- A head that is gathered, pull after pull.
-use Rattle.std.proofs.Common.{ℕ, ◌-◌, ◌<◌, ◌≤◌, List, [], ◌++◌, length, Option, refl, sym, ap, ◌∙◌, arith, append_assoc, length-append}
+use Rattle.std.proofs.Common.{ℕ, ◌+◌, ◌-◌, ◌<◌, ◌≤◌, List, [], ◌++◌, length, Option, refl, sym, ap, ◌∙◌, arith, append_assoc, length-append}
 use Rattle.orb_io.specs.Told.{Loses}
 use Rattle.orb_io.proofs.ToldLemmas.{Loses-twice}
 use Rattle.http_exchange.specs.Head.{head_length}
@@ -21,15 +21,25 @@ grown before piece after some takes =
     omega (arith, takes.1.fits, ap length takes.0, length-append before piece, some)
 
 -- a head that is too long, and what was pulled with it
-pub long : (left left' left'' : Option (List ℕ)) (before piece after : List ℕ) → Loses left left' before → Loses left' left'' piece
-    → TakesHead before after piece taken.Long → Lost left left'' (BeginsWith IsLongHead)
-long left left' left'' before piece after first second (prefix, rest, is, grew, too_long) = record {
+pub long : (left left' left'' : Option (List ℕ)) (before piece after room : List ℕ) → Loses left left' before → Loses left' left'' piece
+    → IsOpenHead before → length piece ≤ length room → TakesHead before after piece taken.Long
+    → Lost left left'' (λ read. BeginsWith IsLongHead read × (length read ≤ 65536 + length room))
+unfolding head_limit
+long left left' left'' before piece after room first second open_ short (prefix, rest, is, grew, too_long) = record {
   read = before ++ piece;
   lost = Loses-twice left left' left'' before piece first second;
   holds = (
-    after,
-    rest,
-    ap (λ t. before ++ t) is ∙ sym (append_assoc before prefix rest) ∙ ap (λ t. t ++ rest) (sym grew),
-    too_long,
+    (
+      after,
+      rest,
+      ap (λ t. before ++ t) is ∙ sym (append_assoc before prefix rest) ∙ ap (λ t. t ++ rest) (sym grew),
+      too_long,
+    ),
+    omega (arith, open_.fits, length-append before piece, short),
   );
 }
+
+-- what follows of the bytes that were lost
+pub lost-weaker : (left left' : Option (List ℕ)) (P Q : List ℕ → Type 0) → ((read : List ℕ) → P read → Q read) → Lost left left' P
+    → Lost left left' Q
+lost-weaker left left' P Q weaker lost = record { read = lost.read; lost = lost.lost; holds = weaker lost.read lost.holds }

@@ -1,5 +1,5 @@
 -- What a proxy answers a client, by the bytes that came from it.
-use Rattle.std.specs.Prelude.{◌≡◌, ℕ, ◌≤◌, List, ◌++◌, length, take, drop, Option, Result, Ok, Err, ⊤}
+use Rattle.std.specs.Prelude.{◌≡◌, ℕ, ◌+◌, ◌≤◌, List, ◌++◌, length, take, drop, Option, Result, Ok, Err, ⊤}
 use Rattle.orb_io.specs.Told.{Loses, IsAtEnd, Rose}
 use Rattle.media_state.specs.Table.{States, admits, IsRefusedId}
 use Rattle.http_exchange.specs.HeadTexts.{IsHeadText, IsOpenHead, IsLongHead}
@@ -34,7 +34,7 @@ pub record HasCome (came : Came) (head room read : List ℕ) : Type 0 where
 -- what gathering a head answers
 abbrev pub Gathers : Result Came HeadStop → (head room : List ℕ) → (left' : Option (List ℕ)) → (read : List ℕ) → Type 0
 Gathers (Ok came) head room left' read = HasCome came head room read
-Gathers (Err stop.Long) head room left' read = BeginsWith IsLongHead read
+Gathers (Err stop.Long) head room left' read = BeginsWith IsLongHead read × (length read ≤ 65536 + length room)
 Gathers (Err stop.Ended) head room left' read = IsOpenHead read × IsAtEnd left'
 Gathers (Err stop.Failed) head room left' read = IsOpenHead read
 

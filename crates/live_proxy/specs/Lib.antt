@@ -4,3 +4,6 @@ pub mod Requests
 pub mod Forwarding
 pub mod Proxies
 pub mod Hearing
+pub mod Responses
+pub mod Answers
+pub mod Relaying

@@ -21,3 +21,22 @@ pub enum ProxyRefusal {
     /// There is no memory for it.
     NoMemory,
 }
+
+/// How answering a request ended.
+#[derive(Clone, Copy, Debug, PartialEq, Eq)]
+pub enum ProxyOutcome {
+    /// The exchange is whole.
+    Done,
+    /// The response is bad.
+    Bad { kind: BadKind },
+    /// Upstream ended before the end of the response.
+    Cut,
+    /// The head of the response is longer than 65,536 bytes.
+    HeadLimit,
+    /// The response goes on past the 2^62 bytes that are taken of one.
+    Endless,
+    /// Upstream failed.
+    PeerFault,
+    /// The client failed.
+    WriteFault,
+}

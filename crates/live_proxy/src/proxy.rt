@@ -1,20 +1,24 @@
 //! The proxy: what it keeps, and how it takes a request.
-ghost use Rattle.std.specs.Prelude.{◌≡◌, ◌≤◌, None, IfOk, OnErr};
+ghost use Rattle.std.specs.Prelude.{◌≡◌, ◌≤◌, [], None, IfOk, OnErr};
+ghost use Rattle.orb_io.specs.Told.{Gives};
 ghost use Rattle.std.specs.FinMap as map;
 ghost use Rattle.http_exchange.specs.HeadTexts.{IsHeadText};
 ghost use Rattle.live_proxy.specs.Hearing.{Lost, Hears, RequestAnswers, RequestCause};
-ghost use Rattle.live_proxy.specs.Requests.{Request};
+ghost use Rattle.live_proxy.specs.Requests.{Request, forwarded};
+ghost use Rattle.live_proxy.specs.Answers.{context_of, Sends, Answered, AnswerCauses};
 ghost use Rattle.live_proxy.specs.Proxies.{limit_of, table_of, Holds, IsIdle};
 
 use crate::forwarding::prepare;
 use crate::gathering::{HeadStop, gather};
-use crate::outcomes::ProxyRefusal;
+use crate::outcomes::{ProxyOutcome, ProxyRefusal};
+use crate::relaying::relay;
 use crate::targets::{ProxyTarget, TargetRefusal, host_of};
 use body_filter::Filter;
-use exchanges::{HeadRoom, enter};
+use exchanges::{Context, HeadRoom, enter, id_of};
 use http_exchange::RequestHead;
 use media_state::{MediaState, MediaTable};
-use orb_io::{NoMemory, Source};
+use orb_io::{Duplex, Failed, NoMemory, Sink, Source};
+use response_rules::Policy;
 use std::alloc::Global;
 
 /// The most bytes that one pull gives.
@@ -111,6 +115,49 @@ impl Proxy {
         }
     }
 
+    /// Answers the request that was taken: sends its head to upstream, and gives the client the response of upstream where
+    /// it is allowed, and else a reply with status 403 in its place. What upstream sends after the response is dropped.
+    ///
+    /// The state that a whole response leaves is kept for the media id of the request; after every other answer the table
+    /// is as before. `PeerFault` comes only where upstream failed, as a source or as a sink, and `WriteFault` only where the
+    /// client did. It takes no memory.
+    pub fn answer<U: Duplex, K: Sink>(&mut self, upstream: &mut U, client: &mut K) -> ProxyOutcome
+        requires { (r : Request) × Holds self.old r }
+        ensures sends { (r : Request) → Holds self.old r
+            → Sends result (U.told upstream.old) (U.told upstream.new) (forwarded r) }
+        ensures answers { (r : Request) → Holds self.old r
+            → Gives (K.told client.old) (K.told client.new) []
+            (Answered result (context_of (limit_of self.old) (table_of self.old) r.text.asks) (table_of self.old) (table_of self.new)
+            (U.left upstream.old) (U.left upstream.new)) }
+        ensures causes { AnswerCauses result (U.Source.faults upstream.old) (U.Source.faults upstream.new)
+            (U.Sink.faults upstream.old) (U.Sink.faults upstream.new) (K.faults client.old) (K.faults client.new) }
+        ensures keeps { K.kept client.old client.new }
+        ensures idle { IsIdle self.new }
+        ensures limit { limit_of self.new ≡ limit_of self.old }
+    {
+        let Some(asked) = self.asked.take() else {
+            unreachable!()
+        };
+        let asks = asked.asks;
+        let context = Context {
+            policy: Policy::Orb,
+            state: asked.state,
+            asks,
+            limit: self.filter.limit(),
+        };
+        match upstream.push(self.text.as_slice()) {
+            Ok(()) => {}
+            Err(Failed) => return ProxyOutcome::PeerFault,
+        }
+        match relay(&mut self.head, &mut self.filter, context, upstream, client) {
+            Ok(state) => {
+                self.media.leave(id_of(&asks), state);
+                ProxyOutcome::Done
+            }
+            Err(outcome) => outcome,
+        }
+    }
+
     /// Takes the request whose head has come.
     fn hear(&mut self, alloc: Global) -> Result<(), ProxyRefusal>
         requires text { IsHeadText self.old.head }
@@ -147,13 +194,13 @@ impl Proxy {
 mod tests {
     use super::*;
     use http_exchange::BadKind;
-    use orb_io::{MemorySource, NeverFails};
+    use orb_io::{MemoryLink, MemorySink, MemorySource, NeverFails};
     use std::test::Fail;
 
     const LIMIT: u64 = 1024;
 
     /// Targets, and the host and the port of those that are taken.
-    const TARGETS: [(&str, Option<(&str, u16)>); 16] = [
+    static TARGETS: [(&str, Option<(&str, u16)>); 16] = [
         ("http://a.test/p?q", Some(("a.test", 80))),
         ("HTTP://a.test:8080", Some(("a.test", 8080))),
         ("http://[::1]:65535?q", Some(("[::1]", 65535))),
@@ -176,7 +223,7 @@ mod tests {
     fn targets_are_taken_or_refused(rt: HostRuntime) -> Result<(), Fail> {
         let alloc = rt.alloc();
         let mut proxy = Proxy::open(alloc, LIMIT)?;
-        for (target, owed) in TARGETS {
+        for (target, owed) in &TARGETS {
             let mut head = b"GET ".to_vec(alloc)?;
             head.extend_from_slice(target.as_bytes())?;
             head.extend_from_slice(b" HTTP/1.1\r\n\r\n")?;
@@ -197,7 +244,7 @@ mod tests {
             };
             assert_eq!(rt;
                 taken,
-                owed.map(|(host, port)| (host.as_bytes(), port)),
+                (*owed).map(|(host, port)| (host.as_bytes(), port)),
                 "{target}"
             );
         }
@@ -227,7 +274,7 @@ mod tests {
     }
 
     /// What a client sends, and why it is refused: the first cause in their order.
-    const REFUSED: [(&[u8], ProxyRefusal); 8] = [
+    static REFUSED: [(&[u8], ProxyRefusal); 8] = [
         (b"", ProxyRefusal::Cut),
         (b"GET / HTTP/1.1\r\n", ProxyRefusal::Cut),
         (
@@ -266,9 +313,9 @@ mod tests {
         for id in 0..4096 {
             assert_eq!(rt; proxy.media.admit(id), Ok(()));
         }
-        for (bytes, refusal) in REFUSED {
+        for (bytes, refusal) in &REFUSED {
             let mut client = NeverFails::new(bytes.to_vec(alloc)?, 1);
-            assert_eq!(rt; proxy.request(alloc, &mut client), Err(refusal));
+            assert_eq!(rt; proxy.request(alloc, &mut client), Err(*refusal));
             assert!(rt; proxy.asked.is_none());
         }
         let mut long = Vec::new(alloc);
@@ -284,6 +331,104 @@ mod tests {
             proxy.request(alloc, &mut failing),
             Err(ProxyRefusal::ReadFault)
         );
+        Ok(())
+    }
+
+    /// A request for a script.
+    const REQUEST: &[u8] = b"GET http://a.test/p?q HTTP/1.1\r\nSec-Fetch-Mode: no-cors\r\n\r\n";
+
+    /// What upstream gets of it.
+    const SENT_ON: &[u8] =
+        b"GET /p?q HTTP/1.1\r\nHost: a.test\r\nSec-Fetch-Mode: no-cors\r\nConnection: close\r\n\r\n";
+
+    const SCRIPT: &[u8] =
+        b"HTTP/1.1 200 OK\r\nContent-Type: text/javascript\r\nContent-Length: 2\r\n\r\nx;";
+
+    const MARKED: &[u8] =
+        b"HTTP/1.1 200 OK\r\nContent-Type: text/html\r\nX-Content-Type-Options: nosniff\r\n\r\n<p>";
+
+    const REPLY: &[u8] =
+        b"HTTP/1.1 403 Forbidden\r\nContent-Length: 0\r\nOrb-Rule: nosniff-blocklisted\r\n\r\n";
+
+    const CHUNKED: &[u8] =
+        b"HTTP/1.1 200 OK\r\nContent-Type: text/javascript\r\nTransfer-Encoding: chunked\r\n\r\n1\r\nx\r\n0\r\n\r\n";
+
+    const BAD_CHUNK: &[u8] =
+        b"HTTP/1.1 200 OK\r\nContent-Type: text/javascript\r\nTransfer-Encoding: chunked\r\n\r\n1\r\nxy";
+
+    const CHUNKED_HEAD: &[u8] =
+        b"HTTP/1.1 200 OK\r\nContent-Type: text/javascript\r\nTransfer-Encoding: chunked\r\n\r\n";
+
+    const ENDLESS_HEAD: &[u8] = b"HTTP/1.1 200 OK\r\nX: ";
+
+    /// What upstream sends, its pulls and pushes that fail, the pushes of the client that fail, how it ends, and what the
+    /// client gets.
+    type Row = (
+        &'static [u8],
+        &'static [u64],
+        &'static [u64],
+        &'static [u64],
+        ProxyOutcome,
+        &'static [u8],
+    );
+
+    const BAD_HEAD: ProxyOutcome = ProxyOutcome::Bad {
+        kind: BadKind::BadHead,
+    };
+
+    const BAD_CHUNKS: ProxyOutcome = ProxyOutcome::Bad {
+        kind: BadKind::BadChunk,
+    };
+
+    use ProxyOutcome::{Cut, Done, PeerFault, WriteFault};
+
+    static ROWS: [Row; 12] = [
+        (SCRIPT, &[], &[], &[], Done, SCRIPT),
+        (MARKED, &[], &[], &[], Done, REPLY),
+        (CHUNKED, &[], &[], &[], Done, CHUNKED),
+        (BAD_CHUNK, &[], &[], &[], BAD_CHUNKS, CHUNKED_HEAD),
+        (b"", &[], &[], &[], Cut, b""),
+        (ENDLESS_HEAD, &[], &[], &[], Cut, b""),
+        (b"HTTP\r\n\r\n", &[], &[], &[], BAD_HEAD, b""),
+        (SCRIPT, &[0], &[], &[], PeerFault, b""),
+        (MARKED, &[1], &[], &[], PeerFault, b""),
+        (SCRIPT, &[], &[0], &[], PeerFault, b""),
+        (SCRIPT, &[], &[], &[0], WriteFault, b""),
+        (MARKED, &[], &[], &[0], WriteFault, b""),
+    ];
+
+    /// Takes the request, and answers it.
+    fn answer(
+        alloc: Global,
+        proxy: &mut Proxy,
+        upstream: &mut MemoryLink,
+        client: &mut MemorySink,
+    ) -> Result<ProxyOutcome, Fail> {
+        let mut source = NeverFails::new(REQUEST.to_vec(alloc)?, 50);
+        match proxy.request(alloc, &mut source) {
+            Ok(()) => Ok(proxy.answer(upstream, client)),
+            Err(_) => Err("the request is refused".into()),
+        }
+    }
+
+    #[test]
+    fn responses_are_shown_or_refused(rt: HostRuntime) -> Result<(), Fail> {
+        let alloc = rt.alloc();
+        let mut proxy = Proxy::open(alloc, LIMIT)?;
+        for (response, pulls, sends, pushes, outcome, shown) in &ROWS {
+            for size in [1, 200] {
+                let source = MemorySource::new(response.to_vec(alloc)?, size, pulls.to_vec(alloc)?);
+                let sink = MemorySink::open(alloc, 200, sends.to_vec(alloc)?)?;
+                let mut upstream = MemoryLink::new(source, sink);
+                let mut client = MemorySink::open(alloc, 200, pushes.to_vec(alloc)?)?;
+                let answered = answer(alloc, &mut proxy, &mut upstream, &mut client)?;
+                assert_eq!(rt; answered, *outcome);
+                assert_eq!(rt; client.bytes(), *shown);
+                if sends.is_empty() {
+                    assert_eq!(rt; upstream.sink().bytes(), SENT_ON);
+                }
+            }
+        }
         Ok(())
     }
 }

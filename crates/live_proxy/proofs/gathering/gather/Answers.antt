@@ -19,5 +19,5 @@ pulls-smaller g c =
 
 pub returns-in-Long-clause-gathers : goal.returns-in-Long-clause-gathers
 returns-in-Long-clause-gathers g c =
-    long _ _ _ c.pulls.head (take c.in-Ok.count c.pull.new.buf) c.take.new.self c.pulls.invariant.lost c.in-Ok.ensures.bytes.0
-    c.in-Long.ensures
+    long _ _ _ c.pulls.head (take c.in-Ok.count c.pull.new.buf) c.take.new.self c.pull.new.buf c.pulls.invariant.lost
+    c.in-Ok.ensures.bytes.0 c.pulls.invariant.open_ (omega (arith, length-take c.in-Ok.count c.pull.new.buf)) c.in-Long.ensures
