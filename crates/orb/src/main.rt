@@ -1,22 +1,21 @@
-//! The program: standard input and standard output under [`orb_cli::run`], and sockets under [`orb_cli::serve`] where the
-//! first word is `serve`. The line of the outcome goes to standard error, and the program ends with its status.
+//! The program: standard input and standard output under [`orb_cli::run`], and sockets under [`orb_cli::serve`] and
+//! [`orb_cli::proxy`] where the first word is `serve` or `proxy`. The line of the outcome goes to standard error, and the
+//! program ends with its status.
 #![tactic(auto)]
 
-use orb_cli::{Outcome, outcome_line, run, serve, serve_outcome_line};
-use orb_io::{StdSink, StdSource, TcpListening};
+use orb_cli::{Outcome, ServeOutcome, outcome_line, proxy, run, serve, serve_outcome_line};
+use orb_io::{StdSink, StdSource, TcpDialing, TcpListening};
 use std::env;
 use std::io::{self, ErrorKind, Write};
 use std::process::ExitCode;
 
 fn main(rt: HostRuntime) -> ExitCode {
     match words(&rt) {
-        Ok(words) => {
-            if words.first().is_some_and(|word| word.as_str() == "serve") {
-                serve_words(&rt, words.as_slice())
-            } else {
-                run_words(&rt, words.as_slice())
-            }
-        }
+        Ok(words) => match words.first().map(|word| word.as_str()) {
+            Some("serve") => serve_words(&rt, words.as_slice()),
+            Some("proxy") => proxy_words(&rt, words.as_slice()),
+            _ => run_words(&rt, words.as_slice()),
+        },
         Err(outcome) => end(&rt, outcome_line(&outcome).as_slice(), outcome.status()),
     }
 }
@@ -42,7 +41,21 @@ fn run_words(rt: &HostRuntime, words: &[String]) -> ExitCode {
 fn serve_words(rt: &HostRuntime, words: &[String]) -> ExitCode {
     let mut listener = TcpListening::new(rt);
     let mut log = StdSink::new(io::writer(rt));
-    let outcome = serve(rt.alloc(), words, &mut listener, &mut log);
+    end_serving(rt, serve(rt.alloc(), words, &mut listener, &mut log))
+}
+
+fn proxy_words(rt: &HostRuntime, words: &[String]) -> ExitCode {
+    let mut listener = TcpListening::new(rt);
+    let mut dialer = TcpDialing::new(rt);
+    let mut log = StdSink::new(io::writer(rt));
+    end_serving(
+        rt,
+        proxy(rt.alloc(), words, &mut listener, &mut dialer, &mut log),
+    )
+}
+
+/// Ends where connections were served.
+fn end_serving(rt: &HostRuntime, outcome: ServeOutcome) -> ExitCode {
     end(
         rt,
         serve_outcome_line(&outcome).as_slice(),

@@ -3,6 +3,7 @@ use Rattle.std.proofs.Common.{◌≡◌, ℕ, ◌<◌, ◌≤◌, Bool, true, fa
 use Rattle.std.proofs.lemmas.List.{append-nil}
 use Rattle.orb_io.specs.Told.{IsAtEnd, IsPrefix, Loses}
 use Rattle.orb_io.proofs.ToldLemmas.{IsPrefix-trans}
+use Rattle.orb_io.specs.declared.pulling.TheConstants.{MOST_OF_A_RUN}
 use Rattle.orb_engine.specs.declared.settings.Settings.{Settings}
 use Rattle.orb_engine.specs.declared.engine.Engine.{Engine}
 use Rattle.orb_engine.specs.declared.outcome.EngineOutcome.{EngineOutcome}
@@ -12,7 +13,7 @@ use Rattle.orb_engine.specs.Ends as ends
 use Rattle.orb_engine.specs.Ends.{End, stop_of}
 use Rattle.orb_engine.specs.Outputs.{output_of}
 use Rattle.orb_engine.specs.Reads.{HaltCause}
-use Rattle.orb_engine.specs.Runs.{run_limit, Ends, Fails, EndsAs}
+use Rattle.orb_engine.specs.Runs.{Ends, Fails, EndsAs}
 use Rattle.orb_engine.proofs.AnswerLaws.{output-longer, refusal-stands}
 use Rattle.orb_cli.specs.declared.outcome.Outcome.{Outcome}
 use Rattle.orb_cli.specs.declared.outcome.Outcome.TheVariants as outcomes
@@ -21,7 +22,9 @@ use Rattle.orb_cli.specs.Answer.{Ran, HasCauses}
 use Rattle.har_recording.specs.Recorded.{har_of}
 use Rattle.orb_cli.specs.declared.har_word.TheConstants.{MOST_OF_A_LOG}
 use Rattle.orb_cli.specs.Har.{log_settings, EndsWhole, IsWholeAnswer, IsLogAnswer, IsHarAnswer, RefusesLog, RefusalCause, AddsPiece}
+use Rattle.har_recording.proofs.RecordingLemmas.{all_sent}
 use Rattle.orb_cli.proofs.AnswerLemmas.{within_all}
+use Rattle.orb_cli.proofs.LogEndLemmas.{IsLogEnd, log_ends}
 
 -- a refusal ends the recording whatever else comes, and here nothing does
 refused_whole : (e : Engine) (s : Settings) (m wrote : List ℕ) (P : End → Type 0) (stop : End) (h : Ends e s m false P wrote)
@@ -69,7 +72,6 @@ ended_whole WriteFault e s m wrote h = λ r is.
 -- a piece that wasn't added
 pub refused_piece : (old new piece : List ℕ) (o : Outcome) → length old ≤ MOST_OF_A_LOG → length piece ≤ 8192
     → AddsPiece old new piece (Err o) → RefusesLog (old ++ piece) o
-unfolding run_limit
 refused_piece old new piece outcomes.HarLimit fits few says =
     (omega (arith, says, length-append old piece), omega (arith, fits, few, length-append old piece))
 refused_piece old new piece outcomes.NoMemory fits few says = omega (arith, says, length-append old piece)
@@ -78,7 +80,6 @@ refused_piece old new piece _ fits few says = absurd says
 -- nothing was written where the log wasn't read
 pub unread_log : (o : Outcome) (read : List ℕ) (left left' : Option (List ℕ)) → Loses left left' read
     → RefusesLog read o → Ran IsHarAnswer left left' o []
-unfolding run_limit
 unread_log outcomes.HarLimit read left left' lost says = record {
   read = read;
   ended = false;
@@ -101,7 +102,7 @@ unread_log outcomes.NoMemory read left left' lost says = record {
   lost = lost;
   at_end = λ is. absurd (let no : false ≡ true = is in cc);
   fits = λ never. omega (arith, says);
-  answers = refl;
+  answers = (says, refl);
 }
 unread_log _ read left left' lost says = absurd says
 
@@ -133,14 +134,18 @@ module _ (text recording : List ℕ) (fits : length text ≤ MOST_OF_A_LOG) (sta
     judged = says;
   }
 
+  -- the recording ends so
+  never : (wrote : List ℕ) (stop : End) → EndsWhole log_settings recording wrote stop → IsLogEnd stop
+  never wrote stop says = subst IsLogEnd says.stops (log_ends log_settings recording says.recording (all_sent text recording stands) says.cut)
+
   pub log_judged : (answer : Outcome) (wrote : List ℕ) → IsWholeAnswer log_settings recording answer wrote → IsHarAnswer text true wrote answer
   log_judged outcomes.Done wrote says = log_answer outcomes.Done wrote says
   log_judged (outcomes.Bad kind place) wrote says = log_answer (outcomes.Bad kind place) wrote says
-  log_judged (outcomes.Cut place) wrote says = log_answer (outcomes.Cut place) wrote says
   log_judged (outcomes.HeadLimit place) wrote says = log_answer (outcomes.HeadLimit place) wrote says
-  log_judged (outcomes.MediaFull place) wrote says = log_answer (outcomes.MediaFull place) wrote says
   log_judged outcomes.WriteFault wrote says = log_answer outcomes.WriteFault wrote says
-  log_judged outcomes.NoMemory wrote says = says
+  log_judged outcomes.NoMemory wrote says = (fits, says)
+  log_judged (outcomes.Cut place) wrote says = absurd (never wrote (ends.Cut place) says)
+  log_judged (outcomes.MediaFull place) wrote says = absurd (never wrote (ends.MediaFull place) says)
   log_judged outcomes.Endless wrote says = says
   log_judged outcomes.ReadFault wrote says = absurd says
   log_judged outcomes.Usage wrote says = says
@@ -150,7 +155,6 @@ module _ (text recording : List ℕ) (fits : length text ≤ MOST_OF_A_LOG) (sta
 -- a log that was read to its end was judged
 pub read_judged : (read text : List ℕ) (left left' : Option (List ℕ)) (answer : Outcome) (wrote : List ℕ) → Loses left left' read → text ≡ read
     → length read ≤ MOST_OF_A_LOG → IsAtEnd left' → IsHarAnswer text true wrote answer → Ran IsHarAnswer left left' answer wrote
-unfolding run_limit
 read_judged read text left left' answer wrote lost same fits at_end says = record {
   read = read;
   ended = true;

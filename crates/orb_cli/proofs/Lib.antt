@@ -6,3 +6,5 @@ pub mod ServingLemmas
 pub mod HarLemmas
 pub mod TypeLemmas
 pub mod LogLemmas
+pub mod LogEndLemmas
+pub mod TypedLemmas

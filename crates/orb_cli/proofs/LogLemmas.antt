@@ -52,24 +52,18 @@ complete_log bytes recording r (Some rest) wrote m m' n n' (Bad kind place) fits
     let w = ran.answers in
     let bad = same_stop bytes recording ran.read rest r stands cut ran.lost w.recording wrote (ends.Bad kind place) (ran.at_end w.whole.is_ended) w.stands_for w.judged ∙ done in
     absurd (cc)
-complete_log bytes recording r (Some rest) wrote m m' n n' (Cut place) fits stands cut done ran causes calm calm' =
-    let w = ran.answers in
-    let bad = same_stop bytes recording ran.read rest r stands cut ran.lost w.recording wrote (ends.Cut place) (ran.at_end w.whole.is_ended) w.stands_for w.judged ∙ done in
-    absurd (cc)
 complete_log bytes recording r (Some rest) wrote m m' n n' (HeadLimit place) fits stands cut done ran causes calm calm' =
     let w = ran.answers in
     let bad = same_stop bytes recording ran.read rest r stands cut ran.lost w.recording wrote (ends.HeadLimit place) (ran.at_end w.whole.is_ended) w.stands_for w.judged ∙ done in
-    absurd (cc)
-complete_log bytes recording r (Some rest) wrote m m' n n' (MediaFull place) fits stands cut done ran causes calm calm' =
-    let w = ran.answers in
-    let bad = same_stop bytes recording ran.read rest r stands cut ran.lost w.recording wrote (ends.MediaFull place) (ran.at_end w.whole.is_ended) w.stands_for w.judged ∙ done in
     absurd (cc)
 complete_log bytes recording r (Some rest) wrote m m' n n' (NotHar entry) fits stands cut done ran causes calm calm' =
     no_fault bytes recording ran.read rest r stands cut ran.lost entry (ran.at_end ran.answers.0.is_ended) ran.answers.1
 complete_log bytes recording r (Some rest) wrote m m' n n' HarLimit fits stands cut done ran causes calm calm' =
     omega (arith, fits, ap length ran.lost, length-append ran.read rest, ran.answers.0)
+complete_log bytes recording r (Some rest) wrote m m' n n' (Cut place) fits stands cut done ran causes calm calm' = ran.answers
+complete_log bytes recording r (Some rest) wrote m m' n n' (MediaFull place) fits stands cut done ran causes calm calm' = ran.answers
 complete_log bytes recording r (Some rest) wrote m m' n n' Endless fits stands cut done ran causes calm calm' = ran.answers
 complete_log bytes recording r (Some rest) wrote m m' n n' Usage fits stands cut done ran causes calm calm' = ran.answers
 complete_log bytes recording r (Some rest) wrote m m' n n' ReadFault fits stands cut done ran causes calm calm' = calm causes.0
 complete_log bytes recording r (Some rest) wrote m m' n n' WriteFault fits stands cut done ran causes calm calm' = calm' causes.1
-complete_log bytes recording r (Some rest) wrote m m' n n' NoMemory fits stands cut done ran causes calm calm' = ran.answers
+complete_log bytes recording r (Some rest) wrote m m' n n' NoMemory fits stands cut done ran causes calm calm' = ran.answers.1

@@ -3,8 +3,9 @@ use Rattle.std.proofs.Common.{◌≡◌, ℕ, ◌+◌, ◌^◌, ◌<◌, ◌≤�
 use Rattle.std.proofs.lemmas.List.{append-nil, append_assoc}
 use Rattle.std.proofs.lemmas.Option.{same_Some}
 use Rattle.std.proofs.lemmas.Bool.Decides.{nat_tests}
-use Rattle.orb_io.specs.Told.{Told, Gives, IsPrefix, told_number}
+use Rattle.orb_io.specs.Told.{Gives, IsPrefix, told_number}
 use Rattle.orb_io.proofs.ToldLemmas.{IsPrefix-trans}
+use Rattle.orb_io.specs.declared.pulling.TheConstants.{MOST_OF_A_RUN}
 use Rattle.orb_engine.specs.declared.settings.Settings.{Settings}
 use Rattle.orb_engine.specs.declared.engine.Engine.{Engine}
 use Rattle.orb_engine.specs.declared.outcome.EngineOutcome.{EngineOutcome}
@@ -12,7 +13,7 @@ use Rattle.orb_engine.specs.declared.outcome.EngineOutcome.TheVariants.{Done, Ba
 use Rattle.orb_engine.specs.Recording.{Recording, IsRecording}
 use Rattle.orb_engine.specs.Outputs.{output_of}
 use Rattle.orb_engine.specs.Reads.{IsStop, HaltCause}
-use Rattle.orb_engine.specs.Runs.{Ends, Fails, Ran as EngineRan, RunCauses, allowed_by, blocked_by, run_limit}
+use Rattle.orb_engine.specs.Runs.{Ends, Fails, Ran as EngineRan, RunCauses, allowed_by, blocked_by}
 use Rattle.orb_engine.proofs.SizeLaws.{output-short}
 use Rattle.orb_engine.proofs.AnswerLaws.{one-exchanges, output-ends}
 use Rattle.orb_engine.proofs.CompleteLemmas.{ends_no_other, open_not_done, whole_is_not_endless}
@@ -103,7 +104,6 @@ number_is zero_ m n size none gained told fits =
 -- what is written of the self-test is shorter than 2^64 bytes
 trial-short : (seed count : ℕ) (r : Recording) → count ≤ 1000000 → IsTrialRecording trial_settings seed count r
     → length (output_of trial_settings r true) < 2 ^ 64
-unfolding run_limit
 trial-short seed count r few is =
     let fits = (is_recorded trial_settings seed count few).whole.fits in
     let short = output-short trial_settings (trial_of seed count) r true refl is.cut in

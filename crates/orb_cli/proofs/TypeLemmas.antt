@@ -2,9 +2,7 @@
 use Rattle.std.proofs.Common.{◌≡◌, ℕ, Bool, List, Option, refl, sym, ap, subst}
 use Rattle.computed_type.specs.declared.outcome.TypeOutcome.{TypeOutcome}
 use Rattle.computed_type.specs.declared.outcome.TypeOutcome.TheVariants.{Done, Bad, Cut, HeadLimit, Endless, ReadFault, WriteFault}
-use Rattle.computed_type.specs.Answers as types
-use Rattle.computed_type.specs.Answers.{TypeAnswers}
-use Rattle.orb_engine.specs.Runs.{run_limit}
+use Rattle.computed_type.specs.Answers.{TypeAnswers, Ran as RanTypes}
 use Rattle.orb_cli.specs.declared.outcome.Outcome.{Outcome}
 use Rattle.orb_cli.specs.Outcomes.{typed_outcome}
 use Rattle.orb_cli.specs.Typed.{IsTypeAnswer}
@@ -20,18 +18,14 @@ typed Endless read ended wrote says = says
 typed ReadFault read ended wrote says = says
 typed WriteFault read ended wrote says = says
 
-same_limit : types.run_limit ≡ run_limit
-unfolding types.run_limit run_limit
-same_limit = refl
-
 pub Ran-typed : (o : TypeOutcome) (left left' : Option (List ℕ)) (answer : Outcome) (wrote : List ℕ)
-    → answer ≡ typed_outcome o → types.Ran o left left' wrote → Ran IsTypeAnswer left left' answer wrote
+    → answer ≡ typed_outcome o → RanTypes o left left' wrote → Ran IsTypeAnswer left left' answer wrote
 Ran-typed o left left' answer wrote is ran =
     subst (λ x. Ran IsTypeAnswer left left' x wrote) (sym is) (record {
       read = ran.read;
       ended = ran.ended;
       lost = ran.lost;
       at_end = ran.at_end;
-      fits = λ never. rw (← same_limit) (ran.fits (λ endless. never (ap typed_outcome endless)));
+      fits = λ never. ran.fits (λ endless. never (ap typed_outcome endless));
       answers = typed o ran.read ran.ended wrote ran.answers;
     })

@@ -1,5 +1,5 @@
 -- From what the words ask for to what an answer says, and back.
-use Rattle.std.proofs.Common.{◌≡◌, ℕ, Bool, true, false, List, [], Option, ◌⊎◌, inl, inr, ap, ◌∙◌, subst, arith}
+use Rattle.std.proofs.Common.{◌≡◌, ℕ, Bool, true, false, List, [], length, Option, ◌⊎◌, inl, inr, ap, ◌∙◌, subst, arith}
 use Rattle.orb_io.proofs.ToldLemmas.{Loses-none}
 use Rattle.command_line.specs.declared.asked.Job.{Job}
 use Rattle.command_line.specs.declared.asked.Policy.{Policy}
@@ -7,7 +7,7 @@ use Rattle.command_line.specs.Taken.{Asked, Judge, Trial, Mime, Har, ComputedTyp
 use Rattle.command_line.proofs.TakenLemmas.{one_asked}
 use Rattle.orb_cli.specs.declared.outcome.Outcome.{Outcome}
 use Rattle.orb_cli.specs.declared.outcome.Outcome.TheVariants.{Done, Usage, Bad, Cut, HeadLimit, MediaFull, Endless, ReadFault, WriteFault, NoMemory, NotHar, HarLimit}
-use Rattle.orb_cli.specs.Words.{settings_of, is_run, AreRefused}
+use Rattle.orb_cli.specs.Words.{settings_of}
 use Rattle.orb_cli.specs.Answer.{IsJudgeAnswer, IsMimeAnswer, IsTrialAnswer, IsAnswer, Answers, AnswersWords, FindsNoMemory, Untouched, Ran}
 use Rattle.orb_cli.specs.Har.{IsHarAnswer}
 use Rattle.orb_cli.specs.Typed.{IsTypeAnswer}
@@ -59,14 +59,14 @@ pub har_words : (words : List (List ℕ)) → IsTaken words Har → (answer : Ou
     → IsHarAnswer read ended wrote answer → Answers words read ended wrote answer
 har_words words taken Done read ended wrote says = (Har, taken, says)
 har_words words taken (Bad kind place) read ended wrote says = (Har, taken, says)
-har_words words taken (Cut place) read ended wrote says = (Har, taken, says)
+har_words words taken (Cut place) read ended wrote says = absurd says
 har_words words taken (HeadLimit place) read ended wrote says = (Har, taken, says)
-har_words words taken (MediaFull place) read ended wrote says = (Har, taken, says)
+har_words words taken (MediaFull place) read ended wrote says = absurd says
 har_words words taken ReadFault read ended wrote says = (Har, taken, says)
 har_words words taken WriteFault read ended wrote says = (Har, taken, says)
 har_words words taken (NotHar entry) read ended wrote says = (Har, taken, says)
 har_words words taken HarLimit read ended wrote says = (Har, taken, says)
-har_words words taken NoMemory read ended wrote says = (inr taken, says)
+har_words words taken NoMemory read ended wrote says = (inr (taken, says.0), says.1)
 har_words words taken Endless read ended wrote says = absurd says
 har_words words taken Usage read ended wrote says = absurd says
 
@@ -85,27 +85,11 @@ type_words words taken (NotHar entry) read ended wrote says = absurd says
 type_words words taken HarLimit read ended wrote says = absurd says
 type_words words taken Usage read ended wrote says = absurd says
 
-pub judge_words : (words : List (List ℕ)) (job : Job) (policy : Policy) (limit : ℕ) → IsTaken words (Judge job policy limit)
-    → (answer : Outcome) (read : List ℕ) (ended : Bool) (wrote : List ℕ)
-    → IsJudgeAnswer (settings_of job policy limit) read ended wrote answer → Answers words read ended wrote answer
-judge_words words job policy limit taken Done read ended wrote says = (Judge job policy limit, taken, says)
-judge_words words job policy limit taken (Bad kind place) read ended wrote says = (Judge job policy limit, taken, says)
-judge_words words job policy limit taken (Cut place) read ended wrote says = (Judge job policy limit, taken, says)
-judge_words words job policy limit taken (HeadLimit place) read ended wrote says = (Judge job policy limit, taken, says)
-judge_words words job policy limit taken (MediaFull place) read ended wrote says = (Judge job policy limit, taken, says)
-judge_words words job policy limit taken ReadFault read ended wrote says = (Judge job policy limit, taken, says)
-judge_words words job policy limit taken WriteFault read ended wrote says = (Judge job policy limit, taken, says)
-judge_words words job policy limit taken Endless read ended wrote says = (Judge job policy limit, taken, says)
-judge_words words job policy limit taken NoMemory read ended wrote says = (inl says.0, says.1)
-judge_words words job policy limit taken Usage read ended wrote says = absurd says
-judge_words words job policy limit taken (NotHar entry) read ended wrote says = absurd says
-judge_words words job policy limit taken HarLimit read ended wrote says = absurd says
-
 -- words that ask for something else than a log: where memory ran out nothing was read
 untouched_of : (words : List (List ℕ)) (asked : Asked) (read wrote : List ℕ) → IsTaken words asked → (asked ≡ Har → ⊥)
     → FindsNoMemory words read wrote → Untouched read wrote
 untouched_of words asked read wrote taken other (inl none, nothing) = (none, nothing)
-untouched_of words asked read wrote taken other (inr log, nothing) = absurd (other (one_asked words asked Har taken log))
+untouched_of words asked read wrote taken other (inr log, nothing) = absurd (other (one_asked words asked Har taken log.0))
 
 -- and what they say where the words ask for this
 said_of : (words : List (List ℕ)) (asked : Asked) (read : List ℕ) (ended : Bool) (wrote : List ℕ) (answer : Outcome)
@@ -165,7 +149,8 @@ trial_of words seed count taken WriteFault read ended wrote says = said_of words
 pub har_of : (words : List (List ℕ)) → IsTaken words Har → (answer : Outcome) (read : List ℕ) (ended : Bool) (wrote : List ℕ)
     → Answers words read ended wrote answer → IsHarAnswer read ended wrote answer
 har_of words taken Usage read ended wrote says = absurd (let no : true ≡ false = says.0 Har taken in cc)
-har_of words taken NoMemory read ended wrote says = says.1
+har_of words taken NoMemory read ended wrote (inl none, nothing) = (omega (arith, ap length none), nothing)
+har_of words taken NoMemory read ended wrote (inr log, nothing) = (log.1, nothing)
 har_of words taken Done read ended wrote says = said_of words Har read ended wrote Done taken says
 har_of words taken (Bad kind place) read ended wrote says = said_of words Har read ended wrote (Bad kind place) taken says
 har_of words taken (Cut place) read ended wrote says = said_of words Har read ended wrote (Cut place) taken says
@@ -176,3 +161,18 @@ har_of words taken WriteFault read ended wrote says = said_of words Har read end
 har_of words taken (NotHar entry) read ended wrote says = said_of words Har read ended wrote (NotHar entry) taken says
 har_of words taken HarLimit read ended wrote says = said_of words Har read ended wrote HarLimit taken says
 har_of words taken Endless read ended wrote says = said_of words Har read ended wrote Endless taken says
+
+pub type_of : (words : List (List ℕ)) → IsTaken words ComputedType → (answer : Outcome) (read : List ℕ) (ended : Bool) (wrote : List ℕ)
+    → Answers words read ended wrote answer → IsTypeAnswer read ended wrote answer
+type_of words taken Usage read ended wrote says = absurd (let no : true ≡ false = says.0 ComputedType taken in cc)
+type_of words taken NoMemory read ended wrote says = untouched_of words ComputedType read wrote taken (λ e. cc) says
+type_of words taken Done read ended wrote says = said_of words ComputedType read ended wrote Done taken says
+type_of words taken (Bad kind place) read ended wrote says = said_of words ComputedType read ended wrote (Bad kind place) taken says
+type_of words taken (Cut place) read ended wrote says = said_of words ComputedType read ended wrote (Cut place) taken says
+type_of words taken (HeadLimit place) read ended wrote says = said_of words ComputedType read ended wrote (HeadLimit place) taken says
+type_of words taken (MediaFull place) read ended wrote says = said_of words ComputedType read ended wrote (MediaFull place) taken says
+type_of words taken ReadFault read ended wrote says = said_of words ComputedType read ended wrote ReadFault taken says
+type_of words taken WriteFault read ended wrote says = said_of words ComputedType read ended wrote WriteFault taken says
+type_of words taken (NotHar entry) read ended wrote says = said_of words ComputedType read ended wrote (NotHar entry) taken says
+type_of words taken HarLimit read ended wrote says = said_of words ComputedType read ended wrote HarLimit taken says
+type_of words taken Endless read ended wrote says = said_of words ComputedType read ended wrote Endless taken says

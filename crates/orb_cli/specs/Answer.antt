@@ -1,12 +1,13 @@
 -- What an answer of `run` says of the bytes read and written, and of the counts of faults.
 use Rattle.std.specs.Prelude.{◌≡◌, ◌⊎◌, ℕ, ◌<◌, ◌≤◌, Bool, true, false, List, [], ◌++◌, length, take, Option}
 use Rattle.orb_io.specs.Told.{Loses, IsAtEnd, IsPrefix, Rose}
+use Rattle.orb_io.specs.declared.pulling.TheConstants.{MOST_OF_A_RUN}
 use Rattle.orb_engine.specs.declared.settings.Settings.{Settings}
 use Rattle.orb_engine.specs.Recording.{Recording, IsRecording}
 use Rattle.orb_engine.specs.Ends as ends
 use Rattle.orb_engine.specs.Ends.{End, stop_of}
 use Rattle.orb_engine.specs.Outputs.{output_of}
-use Rattle.orb_engine.specs.Runs.{run_limit}
+use Rattle.orb_cli.specs.declared.har_word.TheConstants.{MOST_OF_A_LOG}
 use Rattle.orb_cli.specs.declared.outcome.Outcome.{Outcome}
 use Rattle.orb_cli.specs.declared.outcome.Outcome.TheVariants as outcomes
 use Rattle.command_line.specs.Taken.{Asked, Judge, Trial, Mime, Har, ComputedType, Serve, Proxy, IsTaken}
@@ -45,7 +46,7 @@ IsJudgeAnswer s read ended wrote (outcomes.Cut place) = EndsAt s read ended wrot
 IsJudgeAnswer s read ended wrote (outcomes.HeadLimit place) = EndsAt s read ended wrote (ends.HeadLimit place)
 IsJudgeAnswer s read ended wrote (outcomes.MediaFull place) = EndsAt s read ended wrote (ends.MediaFull place)
 IsJudgeAnswer s read ended wrote outcomes.Endless =
-    (run_limit < length read) × (ended ≡ false) × EndsAt s (take run_limit read) false wrote ends.Open
+    (MOST_OF_A_RUN < length read) × (ended ≡ false) × EndsAt s (take MOST_OF_A_RUN read) false wrote ends.Open
 IsJudgeAnswer s read ended wrote outcomes.ReadFault = (ended ≡ false) × EndsAt s read false wrote ends.Open
 IsJudgeAnswer s read ended wrote outcomes.WriteFault = FallsShort s read ended wrote
 IsJudgeAnswer s read ended wrote outcomes.NoMemory = Untouched read wrote
@@ -83,9 +84,10 @@ IsAnswer (Proxy address count) read ended wrote answer = ⊥
 abbrev pub AnswersWords : List (List ℕ) → (read : List ℕ) (ended : Bool) (wrote : List ℕ) → Outcome → Type 0
 AnswersWords words read ended wrote answer = (asked : Asked) × IsTaken words asked × IsAnswer asked read ended wrote answer
 
--- nothing was written, and nothing read but for a HAR log
+-- nothing was written, and nothing read but for a HAR log, no more than one may have
 abbrev pub FindsNoMemory : List (List ℕ) → (read wrote : List ℕ) → Type 0
-FindsNoMemory words read wrote = ((read ≡ []) ⊎ IsTaken words Har) × (wrote ≡ [])
+FindsNoMemory words read wrote =
+    ((read ≡ []) ⊎ (IsTaken words Har × (length read ≤ MOST_OF_A_LOG))) × (wrote ≡ [])
 
 -- What an answer to these words says: `Usage` comes exactly where they ask `run` for nothing, but that there may be no
 -- memory for any words.
@@ -103,7 +105,7 @@ pub record Ran (Says : (read : List ℕ) (ended : Bool) (wrote : List ℕ) → O
     pub ended : Bool
     pub lost : Loses left left' read
     pub at_end : ended ≡ true → IsAtEnd left'
-    pub fits : (answer ≡ outcomes.Endless → ⊥) → length read ≤ run_limit
+    pub fits : (answer ≡ outcomes.Endless → ⊥) → length read ≤ MOST_OF_A_RUN
     pub answers : Says read ended wrote answer
 
 -- A read fault comes only where the source's count rose, a write fault only where the sink's did.

@@ -1,4 +1,4 @@
--- Where nothing fails, a whole recording, a text and a self-test are answered `Done`.
+-- Where nothing fails, a whole recording, a text, a self-test, a log and a response are answered `Done`.
 use Rattle.std.specs.Prelude.{◌≡◌, ℕ, true, List, [], Option, Some}
 use Rattle.orb_engine.specs.declared.settings.Settings.{Settings}
 use Rattle.orb_engine.specs.Recording.{Recording}
@@ -32,3 +32,9 @@ abbrev pub IsCompleteLog : Recording → (left' : Option (List ℕ)) → (wrote 
 IsCompleteLog r left' wrote outcomes.Done = (left' ≡ Some []) × (wrote ≡ output_of log_settings r true)
 IsCompleteLog r left' wrote outcomes.NoMemory = wrote ≡ []
 IsCompleteLog r left' wrote _ = ⊥
+
+-- all of the response was read and its type's line was written, or there was no memory, and nothing was read and written
+abbrev pub IsCompleteType : (bytes line : List ℕ) → (left' : Option (List ℕ)) → (wrote : List ℕ) → Outcome → Type 0
+IsCompleteType bytes line left' wrote outcomes.Done = (left' ≡ Some []) × (wrote ≡ line)
+IsCompleteType bytes line left' wrote outcomes.NoMemory = (left' ≡ Some bytes) × (wrote ≡ [])
+IsCompleteType bytes line left' wrote _ = ⊥

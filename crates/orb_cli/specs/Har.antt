@@ -1,6 +1,7 @@
 -- What an answer to the word `har` says of the bytes read and written.
 use Rattle.std.specs.Prelude.{◌≡◌, ℕ, ◌+◌, ◌<◌, ◌≤◌, Bool, true, false, List, [], ◌++◌, length, Result, Ok, Err, Option}
 use Rattle.orb_io.specs.Told.{IsAtEnd, IsPrefix, Rose}
+use Rattle.orb_io.specs.declared.pulling.TheConstants.{MOST_OF_A_RUN}
 use Rattle.command_line.specs.declared.asked.Job.TheVariants.{Explain}
 use Rattle.command_line.specs.declared.asked.Policy.TheVariants.{Orb}
 use Rattle.command_line.specs.declared.numbers.TheConstants.{DEFAULT_LIMIT}
@@ -9,7 +10,6 @@ use Rattle.orb_engine.specs.Recording.{Recording, IsRecording}
 use Rattle.orb_engine.specs.Ends as ends
 use Rattle.orb_engine.specs.Ends.{End, stop_of}
 use Rattle.orb_engine.specs.Outputs.{output_of}
-use Rattle.orb_engine.specs.Runs.{run_limit}
 use Rattle.har_recording.specs.Recorded.{har_of}
 use Rattle.orb_cli.specs.declared.har_word.TheConstants.{MOST_OF_A_LOG}
 use Rattle.orb_cli.specs.declared.outcome.Outcome.{Outcome}
@@ -54,19 +54,22 @@ pub record IsLogAnswer (read : List ℕ) (ended : Bool) (wrote : List ℕ) (answ
   pub stands_for : har_of read ≡ Ok recording
   pub judged : IsWholeAnswer log_settings recording answer wrote
 
--- What an answer to `har` says. Nothing is written before the log was read to its end and made a recording of.
+-- What an answer to `har` says. Nothing is written before the log was read to its end and made a recording of. That
+-- recording has whole exchanges without media ids, so `Cut` and `MediaFull` never come.
 abbrev pub IsHarAnswer : (read : List ℕ) (ended : Bool) (wrote : List ℕ) → Outcome → Type 0
+IsHarAnswer read ended wrote outcomes.Done = IsLogAnswer read ended wrote outcomes.Done
+IsHarAnswer read ended wrote (outcomes.Bad kind place) = IsLogAnswer read ended wrote (outcomes.Bad kind place)
+IsHarAnswer read ended wrote (outcomes.HeadLimit place) = IsLogAnswer read ended wrote (outcomes.HeadLimit place)
+IsHarAnswer read ended wrote outcomes.WriteFault = IsLogAnswer read ended wrote outcomes.WriteFault
 IsHarAnswer read ended wrote (outcomes.NotHar entry) = IsReadWhole read ended × (har_of read ≡ Err entry) × (wrote ≡ [])
 IsHarAnswer read ended wrote outcomes.HarLimit = (MOST_OF_A_LOG < length read) × (wrote ≡ [])
 IsHarAnswer read ended wrote outcomes.ReadFault = (ended ≡ false) × (length read ≤ MOST_OF_A_LOG) × (wrote ≡ [])
-IsHarAnswer read ended wrote outcomes.NoMemory = wrote ≡ []
-IsHarAnswer read ended wrote outcomes.Endless = ⊥
-IsHarAnswer read ended wrote outcomes.Usage = ⊥
-IsHarAnswer read ended wrote answer = IsLogAnswer read ended wrote answer
+IsHarAnswer read ended wrote outcomes.NoMemory = (length read ≤ MOST_OF_A_LOG) × (wrote ≡ [])
+IsHarAnswer read ended wrote _ = ⊥
 
 -- why a log wasn't read, of which the source lost this much
 abbrev pub RefusesLog : (read : List ℕ) → Outcome → Type 0
-RefusesLog read outcomes.HarLimit = (MOST_OF_A_LOG < length read) × (length read ≤ run_limit)
+RefusesLog read outcomes.HarLimit = (MOST_OF_A_LOG < length read) × (length read ≤ MOST_OF_A_RUN)
 RefusesLog read outcomes.ReadFault = length read ≤ MOST_OF_A_LOG
 RefusesLog read outcomes.NoMemory = length read ≤ MOST_OF_A_LOG
 RefusesLog read _ = ⊥

@@ -1,5 +1,6 @@
 -- What `mime` writes of a text.
 use Rattle.std.specs.Prelude.{◌≡◌, ◌⊎◌, ℕ, List, [], ◌∷◌, ◌++◌, codes}
+use Rattle.orb_bytes.specs.Ascii.{line_feed}
 use Rattle.mime_types.specs.Mime.{Mime, IsMime, HasNoMime}
 use Rattle.mime_types.specs.Text.{text_of}
 
@@ -10,4 +11,4 @@ IsMimeText text out =
 
 -- that, and a line feed
 abbrev pub IsMimeLine : (text line : List ℕ) → Type 0
-IsMimeLine text line = (out : List ℕ) × IsMimeText text out × (line ≡ out ++ (10 ∷ []))
+IsMimeLine text line = (out : List ℕ) × IsMimeText text out × (line ≡ out ++ (line_feed ∷ []))

@@ -1,9 +1,16 @@
 -- What the program says of an outcome: its status, and its line on standard error.
 use Rattle.std.specs.Prelude.{ℕ, List, [], ◌∷◌, ◌++◌, codes, decimal}
+use Rattle.orb_bytes.specs.Ascii.{line_feed}
 use Rattle.http_exchange.specs.declared.refusals.BadKind.{BadKind}
 use Rattle.http_exchange.specs.declared.refusals.BadKind.TheVariants.{BadHead, RequestBody, BadMediaId, Interim, BadFraming, BadChunk}
 use Rattle.orb_cli.specs.declared.outcome.Outcome.{Outcome}
 use Rattle.orb_cli.specs.declared.outcome.Outcome.TheVariants as outcomes
+use Rattle.live_proxy.specs.declared.outcomes.ProxyRefusal.{ProxyRefusal}
+use Rattle.live_proxy.specs.declared.outcomes.ProxyRefusal.TheVariants as refusal
+use Rattle.live_proxy.specs.declared.outcomes.ProxyOutcome.{ProxyOutcome}
+use Rattle.live_proxy.specs.declared.outcomes.ProxyOutcome.TheVariants as answer
+use Rattle.orb_cli.specs.declared.outcome.ClientOutcome.{ClientOutcome}
+use Rattle.orb_cli.specs.declared.outcome.ClientOutcome.TheVariants as clients
 use Rattle.orb_cli.specs.declared.outcome.ServeOutcome.{ServeOutcome}
 use Rattle.orb_cli.specs.declared.outcome.ServeOutcome.TheVariants as serving
 
@@ -33,7 +40,7 @@ kind_name BadChunk = codes "bad-chunk"
 
 -- a line of the program's name, a text and a line feed
 abbrev pub line_text : List ℕ → List ℕ
-line_text text = codes "orb: " ++ (text ++ (10 ∷ []))
+line_text text = codes "orb: " ++ (text ++ (line_feed ∷ []))
 
 -- a line that names a place, or an entry
 abbrev pub line_text_at : List ℕ → ℕ → List ℕ
@@ -71,3 +78,29 @@ serve_line_of serving.BindFault = line_text (codes "bind fault")
 serve_line_of serving.AcceptFault = line_text (codes "accept fault")
 serve_line_of serving.WriteFault = line_text (codes "write fault")
 serve_line_of serving.NoMemory = line_text (codes "no memory")
+
+-- the status in the log of a proxy, by why a request is refused
+abbrev pub refusal_status_of : ProxyRefusal → ℕ
+refusal_status_of (refusal.Bad kind) = 2
+refusal_status_of refusal.BadTarget = 2
+refusal_status_of refusal.Cut = 3
+refusal_status_of refusal.HeadLimit = 4
+refusal_status_of refusal.MediaFull = 4
+refusal_status_of refusal.ReadFault = 5
+refusal_status_of refusal.NoMemory = 7
+
+-- by how answering one ended
+abbrev pub answer_status_of : ProxyOutcome → ℕ
+answer_status_of answer.Done = 0
+answer_status_of (answer.Bad kind) = 2
+answer_status_of answer.Cut = 3
+answer_status_of answer.HeadLimit = 4
+answer_status_of answer.Endless = 4
+answer_status_of answer.PeerFault = 5
+answer_status_of answer.WriteFault = 6
+
+-- by either, and where the host was not reached
+abbrev pub client_status_of : ClientOutcome → ℕ
+client_status_of (clients.Refused why) = refusal_status_of why
+client_status_of clients.Unreached = 5
+client_status_of (clients.Answered outcome) = answer_status_of outcome

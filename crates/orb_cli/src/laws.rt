@@ -7,14 +7,16 @@ ghost use Rattle.orb_engine.specs.Ends.{stop_of};
 ghost use Rattle.orb_engine.specs.Complete.{IsWholeRecording};
 ghost use Rattle.command_line.specs.declared.asked.Job.{Job};
 ghost use Rattle.command_line.specs.declared.asked.Policy.{Policy};
-ghost use Rattle.command_line.specs.Taken.{Text, IsTaken, Judge, Trial, Mime, Har, Serve};
+ghost use Rattle.command_line.specs.Taken.{Text, IsTaken, Judge, Trial, Mime, Har, ComputedType, Serve};
 ghost use Rattle.orb_cli.specs.declared.outcome.Outcome.{Outcome};
 ghost use Rattle.orb_cli.specs.declared.outcome.ServeOutcome.{ServeOutcome};
 ghost use Rattle.orb_cli.specs.Words.{settings_of};
 ghost use Rattle.orb_cli.specs.Answer.{Answers, Ran, HasCauses};
-ghost use Rattle.orb_cli.specs.Serving.{HasServeCauses, IsAllServed};
+ghost use Rattle.orb_cli.specs.Serving.{HasServeCauses, IsAllServed, status_in_log};
 ghost use Rattle.orb_cli.specs.ServeWords.{IsServeAnswer};
-ghost use Rattle.orb_cli.specs.Complete.{IsComplete, IsCompleteText, IsCompleteTrial, IsCompleteLog};
+ghost use Rattle.orb_cli.specs.Complete.{IsComplete, IsCompleteText, IsCompleteTrial, IsCompleteLog, IsCompleteType};
+ghost use Rattle.computed_type.specs.Answers.{HasLine};
+ghost use Rattle.orb_io.specs.declared.pulling.TheConstants.{MOST_OF_A_RUN};
 ghost use Rattle.har_recording.specs.Recorded.{har_of};
 ghost use Rattle.orb_cli.specs.Har.{log_settings};
 ghost use Rattle.orb_cli.specs.declared.har_word.TheConstants.{MOST_OF_A_LOG};
@@ -25,7 +27,7 @@ ghost use Rattle.orb_cli.specs.declared.har_word.TheConstants.{MOST_OF_A_LOG};
 /// ends after a whole exchange or is empty, and one run takes so many. `Done` then says that all was read, and
 /// that all that is written of the recording was written. With `mime` and `trial` it says that the line was written.
 /// With `har` it holds of a log that is no longer than [`crate::MOST_OF_A_LOG`] and whose recording ends so; `NoMemory` may then come
-/// with the log read.
+/// with the log read. With `type` it holds of a response whose head isn't refused, and whose bytes one run takes.
 pub fn completeness()
     ensures recordings { (words : List (List ℕ)) (job : Job) (policy : Policy) (limit : ℕ) (bytes : List ℕ) (r : Recording)
         (left' : Option (List ℕ)) (wrote : List ℕ) (source source' sink sink' : ℕ) (answer : Outcome)
@@ -54,6 +56,13 @@ pub fn completeness()
         → HasCauses source source' sink sink' answer
         → ¬ (Rose source source') → ¬ (Rose sink sink')
         → IsCompleteLog r left' wrote answer }
+    ensures types { (words : List (List ℕ)) (bytes line : List ℕ)
+        (left' : Option (List ℕ)) (wrote : List ℕ) (source source' sink sink' : ℕ) (answer : Outcome)
+        → IsTaken words ComputedType → HasLine bytes (λ l. l ≡ line) → length bytes ≤ MOST_OF_A_RUN
+        → Ran (Answers words) (Some bytes) left' answer wrote
+        → HasCauses source source' sink sink' answer
+        → ¬ (Rose source source') → ¬ (Rose sink sink')
+        → IsCompleteType bytes line left' wrote answer }
 {}
 
 /// Law: where no count of faults rose, [`crate::serve`] answers words that ask for it with `Done` and all connections
@@ -63,8 +72,8 @@ pub fn serving_completeness()
         (handed handed' : Option ℕ) (put put' : Told)
         (bind bind' accept accept' log log' : ℕ) (answer : ServeOutcome)
         → IsTaken words (Serve address count)
-        → IsServeAnswer words handed handed' put put' answer
+        → IsServeAnswer Serve status_in_log words handed handed' put put' answer
         → HasServeCauses bind bind' accept accept' log log' answer
         → ¬ (Rose bind bind') → ¬ (Rose accept accept') → ¬ (Rose log log')
-        → IsAllServed count handed handed' put put' answer }
+        → IsAllServed status_in_log count handed handed' put put' answer }
 {}

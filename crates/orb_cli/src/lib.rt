@@ -6,7 +6,8 @@
 //! and `Report` the status and the line. What a recording is, where it ends and what is written of it
 //! stands in the definitions of `orb_engine`.
 //!
-//! [`serve`] does the same over connections, one after the other, each by [`serve_link`].
+//! [`serve`] does the same over connections, one after the other, each by [`serve_link`], and [`proxy`] has a client of a
+//! proxy on each.
 //! `specs/ServeWords` and `Serving` say what the words, the listener and the log have to do with its
 //! answer.
 #![tactic(auto)]
@@ -17,6 +18,7 @@ mod judging;
 mod laws;
 mod mime_word;
 mod outcome;
+mod proxying;
 mod report;
 mod serve_words;
 mod serving;
@@ -28,9 +30,9 @@ mod type_word;
 
 pub use har_word::MOST_OF_A_LOG;
 pub use laws::{completeness, serving_completeness};
-pub use outcome::{Outcome, ServeOutcome};
+pub use outcome::{ClientOutcome, Outcome, ServeOutcome};
 pub use report::{outcome_line, serve_outcome_line};
-pub use serve_words::serve;
+pub use serve_words::{proxy, serve};
 pub use serving::serve_link;
 pub use top::run;
 pub use trial_word::trial_run;

@@ -4,6 +4,7 @@ ghost use Rattle.orb_cli.specs.Outcomes.{outcome_of, typed_outcome};
 
 use computed_type::TypeOutcome;
 use http_exchange::BadKind;
+use live_proxy::{ProxyOutcome, ProxyRefusal};
 use orb_engine::EngineOutcome;
 
 /// How a run ended. A place is that of a byte of the input, counted from 0.
@@ -50,6 +51,17 @@ pub enum ServeOutcome {
     WriteFault,
     /// There was no memory for the engine: nothing was bound or written.
     NoMemory,
+}
+
+/// How a client of a proxy was served.
+#[derive(Clone, Copy, Debug, PartialEq, Eq)]
+pub enum ClientOutcome {
+    /// Its request was refused, or none came.
+    Refused(ProxyRefusal),
+    /// The host that it asked for was not reached.
+    Unreached,
+    /// It was answered.
+    Answered(ProxyOutcome),
 }
 
 impl From<EngineOutcome> for Outcome {

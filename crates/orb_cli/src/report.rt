@@ -1,10 +1,11 @@
 //! What the program says of an outcome.
 ghost use Rattle.std.specs.Prelude.{◌≡◌, ◌≤◌, length};
-ghost use Rattle.orb_cli.specs.Report.{status_of, kind_name, line_of, line_text, line_text_at, serve_status_of, serve_line_of};
+ghost use Rattle.orb_cli.specs.Report.{status_of, kind_name, line_of, line_text, line_text_at, serve_status_of, serve_line_of, client_status_of, refusal_status_of, answer_status_of};
 
-use crate::outcome::{Outcome, ServeOutcome};
+use crate::outcome::{ClientOutcome, Outcome, ServeOutcome};
 use arrayvec::ArrayVec;
 use http_exchange::BadKind;
+use live_proxy::{ProxyOutcome, ProxyRefusal};
 use orb_bytes::{decimal, extend};
 
 impl Outcome {
@@ -61,6 +62,44 @@ impl ServeOutcome {
             ServeOutcome::WriteFault => 6,
             ServeOutcome::NoMemory => 7,
         }
+    }
+}
+
+impl ClientOutcome {
+    /// The status in the log of a proxy: 0 where the exchange is whole.
+    pub fn status(&self) -> u8
+        ensures { result ≡ client_status_of self.now }
+    {
+        match self {
+            ClientOutcome::Refused(refusal) => refusal_status(*refusal),
+            ClientOutcome::Unreached => 5,
+            ClientOutcome::Answered(outcome) => answer_status(*outcome),
+        }
+    }
+}
+
+fn refusal_status(refusal: ProxyRefusal) -> u8
+    ensures { result ≡ refusal_status_of refusal }
+{
+    match refusal {
+        ProxyRefusal::Bad { .. } | ProxyRefusal::BadTarget => 2,
+        ProxyRefusal::Cut => 3,
+        ProxyRefusal::HeadLimit | ProxyRefusal::MediaFull => 4,
+        ProxyRefusal::ReadFault => 5,
+        ProxyRefusal::NoMemory => 7,
+    }
+}
+
+fn answer_status(outcome: ProxyOutcome) -> u8
+    ensures { result ≡ answer_status_of outcome }
+{
+    match outcome {
+        ProxyOutcome::Done => 0,
+        ProxyOutcome::Bad { .. } => 2,
+        ProxyOutcome::Cut => 3,
+        ProxyOutcome::HeadLimit | ProxyOutcome::Endless => 4,
+        ProxyOutcome::PeerFault => 5,
+        ProxyOutcome::WriteFault => 6,
     }
 }
 

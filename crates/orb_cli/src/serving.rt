@@ -5,7 +5,7 @@ ghost use Rattle.orb_io.specs.Calls.{Puts};
 ghost use Rattle.orb_engine.specs.declared.outcome.EngineOutcome.{EngineOutcome};
 ghost use Rattle.orb_engine.specs.Runs.{settings_of};
 ghost use Rattle.orb_cli.specs.Outcomes.{outcome_of};
-ghost use Rattle.orb_cli.specs.Serving.{RanOn, Served, HasServeCauses, log_line};
+ghost use Rattle.orb_cli.specs.Serving.{RanOn, Served, HasServeCauses, log_line, status_in_log};
 
 use crate::outcome::{Outcome, ServeOutcome};
 use arrayvec::ArrayVec;
@@ -35,22 +35,22 @@ pub fn serve_link<K: Duplex, O: Sink>(
 ) -> Result<(), Failed>
     ensures served { (o : EngineOutcome)
         × RanOn K.Source K.Sink (settings_of engine.old) link.old link.new (outcome_of o)
-        × Puts O.Sink result log.old log.new (log_line number (outcome_of o)) }
+        × Puts O.Sink result log.old log.new (log_line number (status_in_log o)) }
     ensures settings { settings_of engine.new ≡ settings_of engine.old }
 {
     let outcome = Outcome::from(engine.run_link(link));
-    log.push(line(number, &outcome).as_slice())
+    log.push(line(number, outcome.status()).as_slice())
 }
 
 /// The line of a connection in the log.
 #[tactic(auto, unfolding(crate::specs::Serving::log_line))]
-fn line(number: u64, outcome: &Outcome) -> ArrayVec<u8, 42>
-    ensures { result.items ≡ log_line number outcome.now }
+pub(crate) fn line(number: u64, status: u8) -> ArrayVec<u8, 42>
+    ensures { result.items ≡ log_line number status }
 {
     let mut line = ArrayVec::new();
     extend(&mut line, decimal(number).as_slice());
     extend(&mut line, b" ");
-    extend(&mut line, decimal(u64::from(outcome.status())).as_slice());
+    extend(&mut line, decimal(u64::from(status)).as_slice());
     extend(&mut line, b"\n");
     line
 }
@@ -66,7 +66,7 @@ pub fn serve_connections<L: Listener, O: Sink>(
     listener: &mut L,
     log: &mut O,
 ) -> ServeOutcome
-    ensures served { Served count (L.handed listener.old) (L.handed listener.new)
+    ensures served { Served status_in_log count (L.handed listener.old) (L.handed listener.new)
         (O.told log.old) (O.told log.new) result }
     ensures causes { HasServeCauses (L.bind_faults listener.old) (L.bind_faults listener.new)
         (L.accept_faults listener.old) (L.accept_faults listener.new)
@@ -88,7 +88,7 @@ fn serve_each<L: Listener, O: Sink>(
     listener: &mut L,
     log: &mut O,
 ) -> ServeOutcome
-    ensures served { Served count (L.handed listener.old) (L.handed listener.new)
+    ensures served { Served status_in_log count (L.handed listener.old) (L.handed listener.new)
         (O.told log.old) (O.told log.new) result }
     ensures causes { HasServeCauses (L.bind_faults listener.old) (L.bind_faults listener.new)
         (L.accept_faults listener.old) (L.accept_faults listener.new)
@@ -119,23 +119,24 @@ mod tests {
          HTTP/1.1 200 OK\r\nContent-Type: text/javascript\r\nContent-Length: 2\r\n\r\n\
          x;";
 
+    /// The pulls and pushes of the link that fail, and the log after it.
+    static ROWS: [(&[u64], &[u64], &[u8]); 3] = [
+        (&[1], &[], b"9 5\n"),
+        (&[], &[0], b"9 5\n9 6\n"),
+        (&[], &[], b"9 5\n9 6\n9 0\n"),
+    ];
+
     #[test]
     fn a_fault_of_a_link_is_an_outcome(rt: HostRuntime) -> Result<(), Fail> {
         let alloc = rt.alloc();
         let mut engine = Engine::open(alloc, SETTINGS)?;
         let mut log = MemorySink::open(alloc, 100, Vec::new(alloc))?;
-        // the pulls and pushes of the link that fail, and the log after it
-        let rows: [(&[u64], &[u64], &[u8]); 3] = [
-            (&[1], &[], b"9 5\n"),
-            (&[], &[0], b"9 5\n9 6\n"),
-            (&[], &[], b"9 5\n9 6\n9 0\n"),
-        ];
-        for (pulls, pushes, lines) in rows {
+        for (pulls, pushes, lines) in &ROWS {
             let source = MemorySource::new(SCRIPT.to_vec(alloc)?, 50, pulls.to_vec(alloc)?);
             let sink = MemorySink::open(alloc, 100, pushes.to_vec(alloc)?)?;
             let mut link = MemoryLink::new(source, sink);
             assert_eq!(rt; serve_link(&mut engine, 9, &mut link, &mut log), Ok(()));
-            assert_eq!(rt; log.bytes(), lines);
+            assert_eq!(rt; log.bytes(), *lines);
         }
         Ok(())
     }

@@ -32,7 +32,7 @@ type Row = (
 );
 
 /// The worked rows.
-const WORKED: &[Row] = &[
+static WORKED: [Row; 61] = [
     (
         "a typed script",
         "filter",
@@ -791,7 +791,7 @@ fn owes_each(rt: &impl Abort, alloc: Global, rows: &[Row]) -> Result<(), Fail> {
 
 #[test]
 fn the_worked_rows_are_answered(rt: HostRuntime) -> Result<(), Fail> {
-    owes_each(&rt, rt.alloc(), WORKED)
+    owes_each(&rt, rt.alloc(), &WORKED)
 }
 
 /// The answer to words that read nothing, and what it writes.
@@ -799,71 +799,82 @@ fn run_alone(alloc: Global, texts: &[&str]) -> Result<(Outcome, MemorySink), Fai
     run_words(alloc, texts, vec![in alloc; b'x'; 9]?, 1, (&[], &[]))
 }
 
+/// Words that are not taken.
+static REFUSED: [&[&str]; 15] = [
+    &[],
+    &["filtr"],
+    &["filter "],
+    &["filter", "x"],
+    &["explain", "x"],
+    &["mime"],
+    &["mime", "-a/b"],
+    &["mime", "a/b", "c/d"],
+    &["serve", "127.0.0.1:0", "1"],
+    &["proxy", "127.0.0.1:0", "1"],
+    &["type", "x"],
+    &["har", "x"],
+    &["trial", "0", "0"],
+    &["filter", "--limit", "1023"],
+    &["filter", "--limit=1024", "--limit=1024"],
+];
+
 #[test]
 fn other_words_are_refused(rt: HostRuntime) -> Result<(), Fail> {
-    let answers = [
-        run_alone(rt.alloc(), &[])?.0,
-        run_alone(rt.alloc(), &["filtr"])?.0,
-        run_alone(rt.alloc(), &["filter "])?.0,
-        run_alone(rt.alloc(), &["filter", "x"])?.0,
-        run_alone(rt.alloc(), &["explain", "x"])?.0,
-        run_alone(rt.alloc(), &["mime"])?.0,
-        run_alone(rt.alloc(), &["mime", "-a/b"])?.0,
-        run_alone(rt.alloc(), &["mime", "a/b", "c/d"])?.0,
-        run_alone(rt.alloc(), &["serve", "127.0.0.1:0", "1"])?.0,
-        run_alone(rt.alloc(), &["proxy", "127.0.0.1:0", "1"])?.0,
-        run_alone(rt.alloc(), &["type", "x"])?.0,
-        run_alone(rt.alloc(), &["har", "x"])?.0,
-        run_alone(rt.alloc(), &["trial", "0", "0"])?.0,
-        run_alone(rt.alloc(), &["filter", "--limit", "1023"])?.0,
-        run_alone(rt.alloc(), &["filter", "--limit=1024", "--limit=1024"])?.0,
-    ];
-    for answer in answers {
-        assert_eq!(rt; answer, Outcome::Usage);
+    for texts in &REFUSED {
+        let (outcome, _) = run_alone(rt.alloc(), texts)?;
+        assert_eq!(rt; outcome, Outcome::Usage);
     }
     Ok(())
 }
+
+/// Runs words that read nothing, and write this line.
+fn writes_line(rt: &impl Abort, alloc: Global, texts: &[&str], line: &[u8]) -> Result<(), Fail> {
+    let (outcome, sink) = run_alone(alloc, texts)?;
+    assert_eq!(rt; outcome, Outcome::Done);
+    assert!(rt; sink.bytes() == line, "{texts:?}");
+    Ok(())
+}
+
+/// A text, and the line of its type.
+static TYPES: [(&str, &[u8]); 6] = [
+    ("text/plain;a=\"\\\"\";a=2;b=", b"text/plain;a=\"\\\"\"\n"),
+    (
+        "TEXT/HTML;Charset=\"utf-8\" ;x=1 2",
+        b"text/html;charset=utf-8;x=\"1 2\"\n",
+    ),
+    ("text/plain;a=\"b;c\"", b"text/plain;a=\"b;c\"\n"),
+    ("a/b;c=\"d\\", b"a/b;c=\"d\\\\\"\n"),
+    ("text", b"failure\n"),
+    ("", b"failure\n"),
+];
 
 #[test]
 fn mime_writes_a_line(rt: HostRuntime) -> Result<(), Fail> {
-    let cases: [(&str, &[u8]); 6] = [
-        ("text/plain;a=\"\\\"\";a=2;b=", b"text/plain;a=\"\\\"\"\n"),
-        (
-            "TEXT/HTML;Charset=\"utf-8\" ;x=1 2",
-            b"text/html;charset=utf-8;x=\"1 2\"\n",
-        ),
-        ("text/plain;a=\"b;c\"", b"text/plain;a=\"b;c\"\n"),
-        ("a/b;c=\"d\\", b"a/b;c=\"d\\\\\"\n"),
-        ("text", b"failure\n"),
-        ("", b"failure\n"),
-    ];
-    for (text, line) in cases {
-        let (outcome, sink) = run_alone(rt.alloc(), &["mime", text])?;
-        assert_eq!(rt; outcome, Outcome::Done);
-        assert!(rt; sink.bytes() == line, "{text}");
+    for (text, line) in &TYPES {
+        writes_line(&rt, rt.alloc(), &["mime", text], line)?;
     }
     Ok(())
 }
 
+/// How many exchanges a self-test has, and its line.
+static TRIALS: [(&str, &[u8]); 2] = [
+    ("8", b"exchanges 8 allow 5 block 3 written 646\n"),
+    (
+        "8072",
+        b"exchanges 8072 allow 4052 block 4020 written 6682308\n",
+    ),
+];
+
 #[test]
 fn trial_writes_a_line(rt: HostRuntime) -> Result<(), Fail> {
-    let cases: [(&str, &[u8]); 2] = [
-        ("8", b"exchanges 8 allow 5 block 3 written 646\n"),
-        (
-            "8072",
-            b"exchanges 8072 allow 4052 block 4020 written 6682308\n",
-        ),
-    ];
-    for (count, line) in cases {
-        let (outcome, sink) = run_alone(rt.alloc(), &["trial", "0", count])?;
-        assert_eq!(rt; outcome, Outcome::Done);
-        assert!(rt; sink.bytes() == line, "{count}");
+    for (count, line) in &TRIALS {
+        writes_line(&rt, rt.alloc(), &["trial", "0", count], line)?;
     }
     Ok(())
 }
 
 /// A word, what it reads, the answer, and what it writes. Where the second pull of a byte fails, nothing is written.
-const INPUTS: &[(&str, &[u8], Outcome, &[u8])] = &[
+static INPUTS: [(&str, &[u8], Outcome, &[u8]); 9] = [
     (
         "har",
         br#"{"log":{"entries":[{"request":{"method":"GET","headers":[{"name":"Sec-Fetch-Mode","value":"no-cors"}]},"response":{"status":200,"headers":[{"name":"Content-Type","value":"text/html"},{"name":"X-Content-Type-Options","value":"nosniff"}],"content":{"text":"<p>"}}}]}}"#,
@@ -908,62 +919,100 @@ const INPUTS: &[(&str, &[u8], Outcome, &[u8])] = &[
     ),
 ];
 
-#[test]
-fn logs_and_responses_are_read_whole(rt: HostRuntime) -> Result<(), Fail> {
-    for (word, input, owed, written) in INPUTS {
-        for piece in [1, 7, 8192] {
-            let bytes = input.to_vec(rt.alloc())?;
-            let (outcome, sink) = run_words(rt.alloc(), &[word], bytes, piece, (&[], &[]))?;
-            assert_eq!(rt; outcome, *owed);
-            assert!(rt; sink.bytes() == *written, "{word}");
-        }
-        let bytes = input.to_vec(rt.alloc())?;
-        let (outcome, sink) = run_words(rt.alloc(), &[word], bytes, 1, (&[1], &[]))?;
-        assert_eq!(rt; outcome, Outcome::ReadFault);
-        assert!(rt; sink.bytes().is_empty(), "{word}");
-    }
+/// Runs a word over an input in pieces of that size, with these pulls failing.
+fn reads(
+    rt: &impl Abort,
+    alloc: Global,
+    (word, input): (&str, &[u8]),
+    (piece, pulls): (usize, &[u64]),
+    (owed, written): (Outcome, &[u8]),
+) -> Result<(), Fail> {
+    let (outcome, sink) = run_words(alloc, &[word], input.to_vec(alloc)?, piece, (pulls, &[]))?;
+    assert_eq!(rt; outcome, owed);
+    assert!(rt; sink.bytes() == written, "{word} in pieces of {piece}");
     Ok(())
 }
 
 #[test]
-fn outcomes_have_their_status_and_line(rt: HostRuntime) {
-    let owed: [(Outcome, u8, &[u8]); 7] = [
-        (Outcome::Done, 0, b""),
-        (Outcome::Usage, 1, b"orb: words refused\n"),
-        (
-            Outcome::Bad {
-                kind: BadKind::BadFraming,
-                place: 43,
-            },
-            2,
-            b"orb: bad-framing at 43\n",
-        ),
-        (Outcome::Cut { place: 114 }, 3, b"orb: cut at 114\n"),
-        (
-            Outcome::HeadLimit { place: 0 },
-            4,
-            b"orb: head limit at 0\n",
-        ),
-        (Outcome::NotHar { entry: 2 }, 9, b"orb: not har at 2\n"),
-        (Outcome::HarLimit, 4, b"orb: har limit\n"),
-    ];
-    for (outcome, status, line) in owed {
-        assert_eq!(rt; outcome.status(), status);
-        assert!(rt; outcome_line(&outcome).as_slice() == line, "{outcome:?}");
+fn logs_and_responses_are_read_whole(rt: HostRuntime) -> Result<(), Fail> {
+    for (word, input, owed, written) in &INPUTS {
+        let read = (*word, *input);
+        reads(&rt, rt.alloc(), read, (1, &[]), (*owed, written))?;
+        reads(&rt, rt.alloc(), read, (7, &[]), (*owed, written))?;
+        reads(&rt, rt.alloc(), read, (8192, &[]), (*owed, written))?;
+        reads(&rt, rt.alloc(), read, (1, &[1]), (Outcome::ReadFault, b""))?;
     }
+    Ok(())
+}
+
+const EMPTY_LOG: &[u8] = br#"{"log":{"entries":[]}}"#;
+
+/// The log, with so many bytes.
+fn spaced_log(alloc: Global, size: usize) -> Result<Vec<u8>, Fail> {
+    let mut log = EMPTY_LOG.to_vec(alloc)?;
+    let spaces = vec![in alloc; b' '; size.saturating_sub(EMPTY_LOG.len())]?;
+    log.extend_from_slice(spaces.as_slice())?;
+    Ok(log)
+}
+
+/// Reads the log of so many bytes, of which nothing is written.
+fn reads_log(rt: &impl Abort, alloc: Global, size: usize, owed: Outcome) -> Result<(), Fail> {
+    let log = spaced_log(alloc, size)?;
+    let (outcome, sink) = run_words(alloc, &["har"], log, 8192, (&[], &[]))?;
+    assert_eq!(rt; outcome, owed);
+    assert!(rt; sink.bytes().is_empty());
+    Ok(())
 }
 
 #[test]
+fn logs_are_bounded(rt: HostRuntime) -> Result<(), Fail> {
+    reads_log(&rt, rt.alloc(), 67_108_864, Outcome::Done)?;
+    reads_log(&rt, rt.alloc(), 67_108_865, Outcome::HarLimit)
+}
+
+/// Outcomes, with their status and line.
+static OUTCOMES: [(Outcome, u8, &[u8]); 7] = [
+    (Outcome::Done, 0, b""),
+    (Outcome::Usage, 1, b"orb: words refused\n"),
+    (
+        Outcome::Bad {
+            kind: BadFraming,
+            place: 43,
+        },
+        2,
+        b"orb: bad-framing at 43\n",
+    ),
+    (Outcome::Cut { place: 114 }, 3, b"orb: cut at 114\n"),
+    (
+        Outcome::HeadLimit { place: 0 },
+        4,
+        b"orb: head limit at 0\n",
+    ),
+    (Outcome::NotHar { entry: 2 }, 9, b"orb: not har at 2\n"),
+    (Outcome::HarLimit, 4, b"orb: har limit\n"),
+];
+
+#[test]
+fn outcomes_have_their_status_and_line(rt: HostRuntime) {
+    for (outcome, status, line) in &OUTCOMES {
+        assert_eq!(rt; outcome.status(), *status);
+        assert!(rt; outcome_line(outcome).as_slice() == *line, "{outcome:?}");
+    }
+}
+
+/// Outcomes of serving, with their status and line.
+static SERVE_OUTCOMES: [(ServeOutcome, u8, &[u8]); 3] = [
+    (ServeOutcome::Done, 0, b""),
+    (ServeOutcome::BindFault, 5, b"orb: bind fault\n"),
+    (ServeOutcome::AcceptFault, 5, b"orb: accept fault\n"),
+];
+
+#[test]
 fn answers_to_serve_have_their_status_and_line(rt: HostRuntime) {
-    let owed: [(ServeOutcome, u8, &[u8]); 3] = [
-        (ServeOutcome::Done, 0, b""),
-        (ServeOutcome::BindFault, 5, b"orb: bind fault\n"),
-        (ServeOutcome::AcceptFault, 5, b"orb: accept fault\n"),
-    ];
-    for (outcome, status, line) in owed {
-        assert_eq!(rt; outcome.status(), status);
+    for (outcome, status, line) in &SERVE_OUTCOMES {
+        assert_eq!(rt; outcome.status(), *status);
         assert!(rt;
-            serve_outcome_line(&outcome).as_slice() == line,
+            serve_outcome_line(outcome).as_slice() == *line,
             "{outcome:?}"
         );
     }

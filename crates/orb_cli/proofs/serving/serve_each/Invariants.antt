@@ -1,11 +1,11 @@
 use Rattle.std.proofs.Common.{◌≡◌}
 use Rattle.orb_io.specs.Told.{Gains}
-use Rattle.orb_cli.specs.Serving.{Serves}
+use Rattle.orb_cli.specs.Serving.{Serves, status_in_log}
 use Rattle.orb_cli.proofs.serving.serve_each.Given as goal
 
 abbrev pub invariant-loop-before : goal.invariant-loop-before
 invariant-loop-before g l = record {
-  serves : Serves (g.L.Listener.handed l.fn.listener) (g.L.Listener.handed l.listener) l.before
+  serves : Serves status_in_log (g.L.Listener.handed l.fn.listener) (g.L.Listener.handed l.listener) l.before
       (Gains (g.O.Sink.told l.fn.log) (g.O.Sink.told l.log));
   binds : g.L.Listener.bind_faults l.listener ≡ g.L.Listener.bind_faults l.fn.listener;
   accepts : g.L.Listener.accept_faults l.listener ≡ g.L.Listener.accept_faults l.fn.listener;

@@ -3,6 +3,7 @@ use Rattle.orb_io.specs.Told.{Pushes}
 use Rattle.orb_io.proofs.GivesLemmas.{Gives-weaker}
 use Rattle.orb_engine.specs.Runs.{settings_of}
 use Rattle.orb_cli.specs.Outcomes.{outcome_of}
+use Rattle.orb_cli.specs.Report.{status_of}
 use Rattle.orb_cli.specs.Serving.{log_line}
 use Rattle.orb_cli.proofs.AnswerLemmas.{Ran-run}
 use Rattle.orb_cli.proofs.ServingLemmas.{causes-run}
@@ -14,7 +15,7 @@ returns-clause-served g c =
     let s = settings_of c.args.engine.now in
     let old = c.args.link.now in
     let new = c.run_link.new.link in
-    let line = c.as_slice.ensures.value ∙ c.line.ensures ∙ ap (λ x. log_line c.args.number x) c.from-outcome.ensures in (
+    let line = c.as_slice.ensures.value ∙ c.line.ensures ∙ ap (λ n. log_line c.args.number n) (c.status.ensures ∙ ap status_of c.from-outcome.ensures) in (
       o,
       record {
         ran = Gives-weaker _ _ [] _ _ (λ wrote ran.
