@@ -40,6 +40,13 @@ def peak_kilobytes(words, path):
     return peak
 
 
+def run_kilobytes(words, path):
+    """The most memory in one run, to its end. It is no less than that of the process that starts it, some 15,000 kB."""
+    with open(path, "rb") as source:
+        child = subprocess.Popen(words, stdin=source, stdout=subprocess.DEVNULL, stderr=subprocess.DEVNULL)
+    return os.wait4(child.pid, 0)[2].ru_maxrss
+
+
 def print_row(cells):
     print("| %s |" % " | ".join(str(cell) for cell in cells), flush=True)
 

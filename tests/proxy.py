@@ -1,0 +1,149 @@
+#!/usr/bin/env python3
+"""Runs `orb proxy` before an nginx with files of five kinds, and compares what curl gets of each by the proxy, with and
+without `Sec-Fetch-Mode: no-cors`, and the log; then has a headless Chromium load a page through it: proxy.py PROGRAM."""
+
+import os
+import shutil
+import socket
+import subprocess
+import sys
+import tempfile
+import time
+
+PROGRAM = sys.argv[1]
+SECONDS = 20
+
+PNG = b"\x89PNG\r\n\x1a\n\x00\x00\x00\rIHDR\x00\x00\x00\x01\x00\x00\x00\x01\x08\x06\x00\x00\x00\x1f\x15\xc4\x89"
+PAGE = b"""<!DOCTYPE html><title>a page</title>
+<img src="/image.png"><script src="/script.bin"></script>
+<script>fetch("/data.json", {mode: "no-cors"}).then(
+  r => r.text()).then(t => { document.title = "json:" + t.length; });</script>
+"""
+
+# A path, what it has, its type, and whether a no-cors request gets it.
+FILES = [
+    ("page.html", PAGE, "text/html", False),
+    ("script.bin", b"var a = 1;\n", "application/octet-stream", True),
+    ("image.png", PNG, "image/png", True),
+    ("data.json", b'{"a": [1, 2]}\n', "application/json", False),
+    ("chunked.js", b"var b = '<!--#echo var=\"none\" -->';\n", "text/javascript", True),
+]
+
+NGINX = """
+pid %(folder)s/pid; daemon off; worker_processes 1; error_log stderr crit;
+events {}
+http {
+    access_log off; client_body_temp_path %(folder)s/body; proxy_temp_path %(folder)s/proxy;
+    fastcgi_temp_path %(folder)s/fastcgi; uwsgi_temp_path %(folder)s/uwsgi; scgi_temp_path %(folder)s/scgi;
+    server {
+        listen 127.0.0.1:%(port)d; root %(folder)s/files;
+%(locations)s
+    }
+}
+"""
+
+
+def free_port():
+    with socket.socket() as probe:
+        probe.bind(("127.0.0.1", 0))
+        return probe.getsockname()[1]
+
+
+def wait_for(port):
+    deadline = time.monotonic() + SECONDS
+    while True:
+        try:
+            socket.create_connection(("127.0.0.1", port), timeout=1).close()
+            return
+        except ConnectionRefusedError:
+            if time.monotonic() > deadline:
+                raise
+            time.sleep(0.02)
+
+
+def start_nginx(folder, port):
+    os.mkdir(os.path.join(folder, "files"))
+    locations = ""
+    for name, content, kind, _ in FILES:
+        with open(os.path.join(folder, "files", name), "wb") as file:
+            file.write(content)
+        included = "ssi on; ssi_types %s;" % kind if name == "chunked.js" else ""
+        locations += "        location = /%s { types {} default_type %s; %s }\n" % (name, kind, included)
+    config = os.path.join(folder, "nginx.conf")
+    with open(config, "w") as file:
+        file.write(NGINX % {"folder": folder, "port": port, "locations": locations})
+    return subprocess.Popen(["nginx", "-p", folder, "-c", config])
+
+
+def fetch(url, proxy=None, fields=()):
+    """The status and the body of a response."""
+    words = ["curl", "-sS", "--max-time", str(SECONDS), "--noproxy", "" if proxy else "*", "-w", "%{http_code}", url]
+    if proxy:
+        words += ["-x", "http://127.0.0.1:%d" % proxy, "--retry", "10", "--retry-connrefused", "--retry-delay", "1"]
+    for field in fields:
+        words += ["-H", field]
+    said = subprocess.run(words, capture_output=True, check=True, timeout=SECONDS * 2).stdout
+    return said[-3:], said[:-3]
+
+
+def by_curl(upstream):
+    """Asks for each file twice. What differs from what is owed."""
+    port = free_port()
+    count = 2 * len(FILES)
+    proxy = subprocess.Popen([PROGRAM, "proxy", "127.0.0.1:%d" % port, str(count)], stdout=subprocess.PIPE)
+    wrong = []
+    try:
+        for name, _, _, allowed in FILES:
+            url = "http://127.0.0.1:%d/%s" % (upstream, name)
+            direct = fetch(url)
+            if fetch(url, port) != direct:
+                wrong.append(name + " of a page")
+            owed = direct if allowed else (b"403", b"")
+            if fetch(url, port, ["Sec-Fetch-Mode: no-cors"]) != owed:
+                wrong.append(name + " without CORS")
+        log, _ = proxy.communicate(timeout=SECONDS)
+    finally:
+        proxy.kill()
+    if log != b"".join(b"%d 0\n" % (n + 1) for n in range(count)):
+        wrong.append("log %r" % log)
+    return wrong
+
+
+def by_browser(upstream, folder):
+    """Loads the page in Chromium, with the title that says how long the JSON was which its script got."""
+    port = free_port()
+    proxy = subprocess.Popen([PROGRAM, "proxy", "127.0.0.1:%d" % port, "1000"], stdout=subprocess.DEVNULL)
+    try:
+        time.sleep(1)
+        words = [
+            "chromium", "--headless", "--no-sandbox", "--disable-gpu", "--user-data-dir=" + os.path.join(folder, "profile"),
+            "--proxy-server=http://127.0.0.1:%d" % port, "--proxy-bypass-list=<-loopback>", "--virtual-time-budget=5000",
+            "--dump-dom", "http://127.0.0.1:%d/page.html" % upstream,
+        ]
+        page = subprocess.run(words, capture_output=True, timeout=SECONDS * 3).stdout
+    finally:
+        proxy.kill()
+    return [] if b"<title>json:0</title>" in page else ["page %r" % page[:300]]
+
+
+def main():
+    folder = tempfile.mkdtemp()
+    os.chmod(folder, 0o755)
+    upstream = free_port()
+    nginx = start_nginx(folder, upstream)
+    try:
+        wait_for(upstream)
+        wrong = by_curl(upstream)
+        browser = shutil.which("chromium") is not None
+        if browser:
+            wrong += by_browser(upstream, folder)
+    finally:
+        nginx.terminate()
+        nginx.wait()
+        shutil.rmtree(folder, ignore_errors=True)
+    if wrong:
+        sys.exit("proxy: DIFFERS: " + ", ".join(wrong))
+    print("proxy: %d answers as owed%s" % (2 * len(FILES), ", and a page in Chromium" if browser else "; there is no Chromium"))
+
+
+main()
