@@ -1,23 +1,38 @@
 #!/usr/bin/env python3
 """Runs `orb proxy` before an nginx with files of five kinds, and compares what curl gets of each by the proxy, with and
-without `Sec-Fetch-Mode: no-cors`, and the log; then has a headless Chromium load a page through it: proxy.py PROGRAM."""
+without `Sec-Fetch-Mode: no-cors`, and the log; then has a headless Chromium load a page through it with parts of another
+site, and reads in Chromium's own log which reply it got: proxy.py PROGRAM."""
 
 import os
+import re
 import shutil
 import socket
+import struct
 import subprocess
 import sys
 import tempfile
 import time
+import zlib
 
 PROGRAM = sys.argv[1]
 SECONDS = 20
 
-PNG = b"\x89PNG\r\n\x1a\n\x00\x00\x00\rIHDR\x00\x00\x00\x01\x00\x00\x00\x01\x08\x06\x00\x00\x00\x1f\x15\xc4\x89"
+
+
+def chunk(kind, data):
+    return struct.pack(">I", len(data)) + kind + data + struct.pack(">I", zlib.crc32(kind + data))
+
+
+# One black pixel.
+PNG = b"\x89PNG\r\n\x1a\n" + b"".join([
+    chunk(b"IHDR", struct.pack(">IIBBBBB", 1, 1, 8, 2, 0, 0, 0)), chunk(b"IDAT", zlib.compress(bytes(4))), chunk(b"IEND", b""),
+])
+
+# It takes the others from another site. Its title says what came of them: what the script set, and the width of the image.
 PAGE = b"""<!DOCTYPE html><title>a page</title>
-<img src="/image.png"><script src="/script.bin"></script>
-<script>fetch("/data.json", {mode: "no-cors"}).then(
-  r => r.text()).then(t => { document.title = "json:" + t.length; });</script>
+<img src="http://localhost:PORT/image.png"><script src="http://localhost:PORT/script.bin"></script>
+<script>onload = () => fetch("http://localhost:PORT/data.json", {mode: "no-cors"}).then(
+  r => { document.title = ["script", a, "image", document.images[0].naturalWidth].join(" "); });</script>
 """
 
 # A path, what it has, its type, and whether a no-cors request gets it.
@@ -25,7 +40,7 @@ FILES = [
     ("page.html", PAGE, "text/html", False),
     ("script.bin", b"var a = 1;\n", "application/octet-stream", True),
     ("image.png", PNG, "image/png", True),
-    ("data.json", b'{"a": [1, 2]}\n', "application/json", False),
+    ("data.json", b"[1, 2]\n", "application/json", False),
     ("chunked.js", b"var b = '<!--#echo var=\"none\" -->';\n", "text/javascript", True),
 ]
 
@@ -66,7 +81,7 @@ def start_nginx(folder, port):
     locations = ""
     for name, content, kind, _ in FILES:
         with open(os.path.join(folder, "files", name), "wb") as file:
-            file.write(content)
+            file.write(content.replace(b"PORT", b"%d" % port))
         included = "ssi on; ssi_types %s;" % kind if name == "chunked.js" else ""
         locations += "        location = /%s { types {} default_type %s; %s }\n" % (name, kind, included)
     config = os.path.join(folder, "nginx.conf")
@@ -110,20 +125,36 @@ def by_curl(upstream):
 
 
 def by_browser(upstream, folder):
-    """Loads the page in Chromium, with the title that says how long the JSON was which its script got."""
+    """Loads the page in Chromium: it gets the image and the script, and in the place of the JSON a reply. What differs."""
     port = free_port()
-    proxy = subprocess.Popen([PROGRAM, "proxy", "127.0.0.1:%d" % port, "1000"], stdout=subprocess.DEVNULL)
-    try:
-        time.sleep(1)
-        words = [
-            "chromium", "--headless", "--no-sandbox", "--disable-gpu", "--user-data-dir=" + os.path.join(folder, "profile"),
-            "--proxy-server=http://127.0.0.1:%d" % port, "--proxy-bypass-list=<-loopback>", "--virtual-time-budget=5000",
-            "--dump-dom", "http://127.0.0.1:%d/page.html" % upstream,
-        ]
-        page = subprocess.run(words, capture_output=True, timeout=SECONDS * 3).stdout
-    finally:
-        proxy.kill()
-    return [] if b"<title>json:0</title>" in page else ["page %r" % page[:300]]
+    seen = os.path.join(folder, "seen.json")
+    # The proxy takes one connection after the other, so the browser may open none ahead of its need.
+    settings = os.path.join(folder, "profile", "Default")
+    os.makedirs(settings)
+    with open(os.path.join(settings, "Preferences"), "w") as file:
+        file.write('{"net": {"network_prediction_options": 2}}')
+    with open(os.path.join(folder, "log"), "w+b") as log:
+        proxy = subprocess.Popen([PROGRAM, "proxy", "127.0.0.1:%d" % port, "1000"], stdout=log)
+        try:
+            time.sleep(1)
+            words = [
+                "chromium", "--headless", "--no-sandbox", "--disable-gpu", "--user-data-dir=" + os.path.join(folder, "profile"),
+                "--proxy-server=http://127.0.0.1:%d" % port, "--proxy-bypass-list=<-loopback>", "--virtual-time-budget=5000",
+                "--log-net-log=" + seen, "--dump-dom", "http://127.0.0.1:%d/page.html" % upstream,
+            ]
+            page = subprocess.run(words, capture_output=True, timeout=SECONDS * 3).stdout
+        finally:
+            proxy.kill()
+            proxy.wait()
+        log.seek(0)
+        whole = log.read().count(b" 0\n")
+    wrong = [] if b"<title>script 1 image 1</title>" in page else ["page %r" % page[:300]]
+    with open(seen, encoding="utf-8", errors="replace") as file:
+        rules = re.findall(r"Orb-Rule: ([a-z-]+)", file.read())
+    if set(rules) != {"json"}:
+        wrong.append("rules %r of a browser" % rules)
+    # the page, the image, the script and the JSON; the browser asks for more, some of it by other schemes
+    return wrong if whole >= 4 else wrong + ["%d whole exchanges of a browser" % whole]
 
 
 def main():
