@@ -65,7 +65,8 @@ pub fn proxy<L: Listener, D: Dialer, O: Sink>(
         Ok(Command::Proxy { address, count }) => {
             proxy_connections(alloc, address, count, listener, dialer, log)
         }
-        Ok(_) | Err(Refused::Usage) => ServeOutcome::Usage,
+        Ok(_) => ServeOutcome::Usage,
+        Err(Refused::Usage) => ServeOutcome::Usage,
         Err(Refused::NoMemory) => ServeOutcome::NoMemory,
     }
 }
