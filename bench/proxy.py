@@ -1,29 +1,18 @@
 """The table of bench/proxy.sh: proxy.py PROGRAM COUNT."""
 
 import os
-import re
 import shutil
-import socket
 import subprocess
 import sys
 import tempfile
 import time
 
+from loopback import connect, free_port, peak, start_nginx
 from measure import print_head, print_row
 
 PROGRAM, COUNT = sys.argv[1], int(sys.argv[2])
 ROUNDS = 4
 BODY = b"var a = 1;" * 1000
-
-NGINX = """
-pid %(folder)s/pid; daemon off; worker_processes 1; error_log stderr crit;
-events {}
-http {
-    access_log off; client_body_temp_path %(folder)s/body; proxy_temp_path %(folder)s/proxy;
-    fastcgi_temp_path %(folder)s/fastcgi; uwsgi_temp_path %(folder)s/uwsgi; scgi_temp_path %(folder)s/scgi;
-    server { listen 127.0.0.1:%(port)d; location / { %(location)s } }
-}
-"""
 
 TINYPROXY = """
 Port %(port)d
@@ -36,50 +25,27 @@ PidFile "%(folder)s/pid"
 """
 
 
-def free_port():
-    with socket.socket() as probe:
-        probe.bind(("127.0.0.1", 0))
-        return probe.getsockname()[1]
-
-
-def written(scratch, name, text):
-    """A folder of that name in the scratch folder, and the file `conf` in it with the text."""
+def nginx(scratch, name, port, location):
     folder = os.path.join(scratch, name)
     os.mkdir(folder)
-    path = os.path.join(folder, "conf")
-    with open(path, "w") as file:
-        file.write(text.replace("%(folder)s", folder))
-    return folder, path
-
-
-def nginx(scratch, name, port, location):
-    text = NGINX.replace("%(port)d", str(port)).replace("%(location)s", location)
-    folder, path = written(scratch, name, text)
-    return subprocess.Popen(["nginx", "-p", folder, "-c", path])
+    return start_nginx(folder, port, "location / { %s }" % location)
 
 
 def tinyproxy(scratch, port):
-    _, path = written(scratch, "tinyproxy", TINYPROXY.replace("%(port)d", str(port)))
+    path = os.path.join(scratch, "tinyproxy.conf")
+    with open(path, "w") as file:
+        file.write(TINYPROXY % {"folder": scratch, "port": port})
     return subprocess.Popen(["tinyproxy", "-d", "-c", path], stdout=subprocess.DEVNULL, stderr=subprocess.DEVNULL)
 
 
 def ask(port, request):
     """How many bytes come back to a request on a connection of its own."""
     size = 0
-    with socket.create_connection(("127.0.0.1", port), timeout=10) as client:
+    with connect(port) as client:
         client.sendall(request)
         while piece := client.recv(65536):
             size += len(piece)
     return size
-
-
-def first_answer(port, request):
-    for _ in range(1000):
-        try:
-            return ask(port, request)
-        except ConnectionRefusedError:
-            time.sleep(0.01)
-    sys.exit("nothing listens at %d" % port)
 
 
 def times(port, request, count):
@@ -91,11 +57,6 @@ def times(port, request, count):
             sys.exit("a short answer")
         spent.append(time.perf_counter() - start)
     return spent
-
-
-def peak(process):
-    with open("/proc/%d/status" % process.pid) as status:
-        return re.search(r"VmHWM:\s*(\d+) kB", status.read())[1]
 
 
 def compare(ports, request, count):
@@ -131,7 +92,7 @@ def main():
     ports = {"orb proxy": ours, "nginx proxy_pass": theirs, "tinyproxy": tiny}
     try:
         for port in [upstream, *ports.values()]:
-            first_answer(port, request)
+            ask(port, request)
         early = peak(orb)
         compare(ports, request, COUNT // 2)
         times(ours, request, COUNT // 2 - 2)

@@ -12,4 +12,4 @@ for tool in python3 nginx tinyproxy; do
         exit 0
     fi
 done
-python3 "$top/bench/proxy.py" "$top/crates/orb/out/orb" 10000
+PYTHONPATH=$top/tests python3 "$top/bench/proxy.py" "$top/crates/orb/out/orb" 10000

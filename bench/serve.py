@@ -1,11 +1,12 @@
 """The line of bench/serve.sh: serve.py PROGRAM COUNT."""
 
-import re
 import socket
 import subprocess
 import sys
 import tempfile
 import time
+
+from loopback import connect, free_port, peak
 
 PROGRAM, COUNT = sys.argv[1], int(sys.argv[2])
 RECORDING = (
@@ -14,14 +15,8 @@ RECORDING = (
 )
 
 
-def free_port():
-    with socket.socket() as probe:
-        probe.bind(("127.0.0.1", 0))
-        return probe.getsockname()[1]
-
-
 def talk(port):
-    with socket.create_connection(("127.0.0.1", port), timeout=10) as client:
+    with connect(port) as client:
         client.sendall(RECORDING)
         client.shutdown(socket.SHUT_WR)
         back = b""
@@ -30,21 +25,11 @@ def talk(port):
     return len(back)
 
 
-def peak(server):
-    with open("/proc/%d/status" % server.pid) as status:
-        return re.search(r"VmHWM:\s*(\d+) kB", status.read())[1]
-
-
 port = free_port()
 words = [PROGRAM, "serve", "127.0.0.1:%d" % port, str(COUNT)]
 log = tempfile.TemporaryFile()
 server = subprocess.Popen(words, stdout=log)
-for _ in range(1000):
-    try:
-        first = talk(port)
-        break
-    except ConnectionRefusedError:
-        time.sleep(0.01)
+first = talk(port)
 early = peak(server)
 start = time.perf_counter()
 for _ in range(COUNT - 2):

@@ -4,4 +4,4 @@
 set -e
 top=$(cd "$(dirname "$0")/.." && pwd)
 "$top/orb" mime a/b >/dev/null # builds the program where that is needed
-python3 "$top/bench/serve.py" "$top/crates/orb/out/orb" 10000
+PYTHONPATH=$top/tests python3 "$top/bench/serve.py" "$top/crates/orb/out/orb" 10000

@@ -6,7 +6,6 @@ site, and reads in Chromium's own log which reply it got: proxy.py PROGRAM."""
 import os
 import re
 import shutil
-import socket
 import struct
 import subprocess
 import sys
@@ -14,9 +13,9 @@ import tempfile
 import time
 import zlib
 
-PROGRAM = sys.argv[1]
-SECONDS = 20
+from loopback import SECONDS, connect, free_port, start_nginx
 
+PROGRAM = sys.argv[1]
 
 
 def chunk(kind, data):
@@ -44,50 +43,17 @@ FILES = [
     ("chunked.js", b"var b = '<!--#echo var=\"none\" -->';\n", "text/javascript", True),
 ]
 
-NGINX = """
-pid %(folder)s/pid; daemon off; worker_processes 1; error_log stderr crit;
-events {}
-http {
-    access_log off; client_body_temp_path %(folder)s/body; proxy_temp_path %(folder)s/proxy;
-    fastcgi_temp_path %(folder)s/fastcgi; uwsgi_temp_path %(folder)s/uwsgi; scgi_temp_path %(folder)s/scgi;
-    server {
-        listen 127.0.0.1:%(port)d; root %(folder)s/files;
-%(locations)s
-    }
-}
-"""
 
-
-def free_port():
-    with socket.socket() as probe:
-        probe.bind(("127.0.0.1", 0))
-        return probe.getsockname()[1]
-
-
-def wait_for(port):
-    deadline = time.monotonic() + SECONDS
-    while True:
-        try:
-            socket.create_connection(("127.0.0.1", port), timeout=1).close()
-            return
-        except ConnectionRefusedError:
-            if time.monotonic() > deadline:
-                raise
-            time.sleep(0.02)
-
-
-def start_nginx(folder, port):
+def serve_files(folder, port):
+    """An nginx that gives the files."""
     os.mkdir(os.path.join(folder, "files"))
-    locations = ""
+    server = "root %s/files;" % folder
     for name, content, kind, _ in FILES:
         with open(os.path.join(folder, "files", name), "wb") as file:
             file.write(content.replace(b"PORT", b"%d" % port))
         included = "ssi on; ssi_types %s;" % kind if name == "chunked.js" else ""
-        locations += "        location = /%s { types {} default_type %s; %s }\n" % (name, kind, included)
-    config = os.path.join(folder, "nginx.conf")
-    with open(config, "w") as file:
-        file.write(NGINX % {"folder": folder, "port": port, "locations": locations})
-    return subprocess.Popen(["nginx", "-p", folder, "-c", config])
+        server += "\n        location = /%s { types {} default_type %s; %s }" % (name, kind, included)
+    return start_nginx(folder, port, server)
 
 
 def fetch(url, proxy=None, fields=()):
@@ -161,9 +127,9 @@ def main():
     folder = tempfile.mkdtemp()
     os.chmod(folder, 0o755)
     upstream = free_port()
-    nginx = start_nginx(folder, upstream)
+    nginx = serve_files(folder, upstream)
     try:
-        wait_for(upstream)
+        connect(upstream).close()
         wrong = by_curl(upstream)
         browser = shutil.which("chromium") is not None
         if browser:

@@ -6,13 +6,13 @@ import socket
 import struct
 import subprocess
 import sys
-import time
+
+from loopback import SECONDS, connect, free_port
 
 PROGRAM = sys.argv[1]
 REQUEST = b"GET / HTTP/1.1\r\nSec-Fetch-Mode: no-cors\r\n\r\n"
 RESPONSE = b"HTTP/1.1 200 OK\r\nContent-Type: text/javascript\r\nContent-Length: 2\r\n\r\nx;"
 POST = b"POST / HTTP/1.1\r\nHost: 127.0.0.1\r\nContent-Length: 3\r\n\r\nabc"
-SECONDS = 10
 
 # What a client sends, how it ends, and what it gets back.
 CLIENTS = [
@@ -23,23 +23,6 @@ CLIENTS = [
     (REQUEST + RESPONSE + REQUEST + RESPONSE, "end", RESPONSE + RESPONSE),
 ]
 LOG = b"1 0\n2 3\n3 5\n4 2\n5 0\n"
-
-
-def free_port():
-    with socket.socket() as probe:
-        probe.bind(("127.0.0.1", 0))
-        return probe.getsockname()[1]
-
-
-def connect(port):
-    deadline = time.monotonic() + SECONDS
-    while True:
-        try:
-            return socket.create_connection(("127.0.0.1", port), timeout=SECONDS)
-        except ConnectionRefusedError:
-            if time.monotonic() > deadline:
-                raise
-            time.sleep(0.01)
 
 
 def talk(port, sent, ending):
