@@ -51,6 +51,7 @@ impl Filter {
         ensures empty { IfOk result (λ f. held_in f ≡ 0) }
     {
         let limit = limit as usize;
+        let framer = Framer::open(alloc)?;
         let (Ok(held), Ok(head)) = (
             Vec::with_capacity(alloc, limit),
             Vec::with_capacity(alloc, HEAD),
@@ -61,7 +62,7 @@ impl Filter {
             limit,
             phase: Phase::Idle,
             decider: Decider::idle(),
-            framer: Framer::new(),
+            framer,
             head,
             held,
         })

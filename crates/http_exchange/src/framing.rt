@@ -1,12 +1,12 @@
 //! A body on its way out, framed as it was when it came: in chunks (RFC 9112 7.1), or as it is.
-ghost use Rattle.std.specs.Prelude.{◌≡◌, ◌<◌, ◌≤◌, ◌+◌, ◌++◌, [], length, OnOk};
+ghost use Rattle.std.specs.Prelude.{◌≡◌, ◌<◌, ◌≤◌, ◌+◌, ◌++◌, [], length, vec_len, vec_capacity, IfOk, OnOk};
 ghost use Rattle.orb_io.specs.Calls.{Puts};
 ghost use Rattle.http_exchange.specs.Chunks.{chunk, full_chunks, count_full, rest_of, rest_chunk, last_chunk};
 ghost use Rattle.http_exchange.specs.Framing.{put_of, kept_after, end_of, Gathers};
 
-use arrayvec::ArrayVec;
-use orb_bytes::{extend, hexadecimal};
-use orb_io::{Failed, Sink, push_nonempty};
+use orb_bytes::{append, hexadecimal};
+use orb_io::{Failed, NoMemory, Sink, push_nonempty};
+use std::alloc::Global;
 
 /// How many bytes a chunk has, but for the one of the rest.
 const CHUNK: usize = 1024;
@@ -23,25 +23,32 @@ const BATCH: usize = 8 * FULL_CHUNK;
 pub struct Framer {
     chunked: bool,
     // The bytes that fill no chunk yet.
-    rest: ArrayVec<u8, CHUNK>,
-    // Chunks on their way out, empty between calls.
-    text: ArrayVec<u8, BATCH>,
+    rest: Vec<u8>,
+    // Chunks on their way out, of no meaning between calls.
+    text: Vec<u8>,
     ghost short: { length rest.items < 1024 },
-    ghost idle: { text.items ≡ [] },
+    ghost rest_room: { 1024 ≤ vec_capacity rest },
+    ghost text_room: { 8248 ≤ vec_capacity text },
 }
 
 impl Framer {
     ghost use Rattle.http_exchange.specs.Framers.{is_chunked_by, kept_by};
 
-    /// One that has put nothing.
-    pub fn new() -> Framer
-        ensures { kept_by result ≡ [] }
+    /// One that has put nothing. It takes all memory that it will use: less than 10,000 bytes.
+    pub fn open(alloc: Global) -> Result<Framer, NoMemory>
+        ensures { IfOk result (λ f. kept_by f ≡ []) }
     {
-        Framer {
+        let (Ok(rest), Ok(text)) = (
+            Vec::with_capacity(alloc, CHUNK),
+            Vec::with_capacity(alloc, BATCH),
+        ) else {
+            return Err(NoMemory);
+        };
+        Ok(Framer {
             chunked: false,
-            rest: ArrayVec::new(),
-            text: ArrayVec::new(),
-        }
+            rest,
+            text,
+        })
     }
 
     /// Begins a body.
@@ -91,42 +98,44 @@ impl Framer {
 
 /// Puts each chunk that the piece fills after the rest, and keeps what fills none.
 fn put_chunks<O: Sink>(
-    rest: &mut ArrayVec<u8, CHUNK>,
-    text: &mut ArrayVec<u8, BATCH>,
+    rest: &mut Vec<u8>,
+    text: &mut Vec<u8>,
     piece: &[u8],
     sink: &mut O,
 ) -> Result<(), Failed>
     requires short { length rest.old.items < 1024 }
-    requires idle { text.old.items ≡ [] }
+    requires rest_room { 1024 ≤ vec_capacity rest.old }
+    requires text_room { 8248 ≤ vec_capacity text.old }
     ensures puts { Puts O.Sink result sink.old sink.new (full_chunks (count_full (rest.old.items ++ piece.now)) (rest.old.items ++ piece.now)) }
     ensures rest { OnOk result (rest.new.items ≡ rest_of (rest.old.items ++ piece.now)) }
     ensures short { length rest.new.items < 1024 }
-    ensures idle { text.new.items ≡ [] }
+    ensures rest_room { 1024 ≤ vec_capacity rest.new }
+    ensures text_room { 8248 ≤ vec_capacity text.new }
 {
     let mut left = piece;
     'batches: while CHUNK - rest.len() <= left.len() {
         left = gather_chunks(rest, text, left);
-        put_text(text, sink)?;
+        push_nonempty(text.as_slice(), sink)?;
     }
-    extend(rest, left);
+    append(rest, left);
     Ok(())
 }
 
-/// Fills the text with chunks of the rest and the piece after it, as many as it has room for. It gives
+/// Makes the text chunks of the rest and the piece after it, as many as it has room for. It gives
 /// what is left of the piece.
-fn gather_chunks<'p>(
-    rest: &mut ArrayVec<u8, CHUNK>,
-    text: &mut ArrayVec<u8, BATCH>,
-    piece: &'p [u8],
-) -> &'p [u8]
-    requires { length rest.old.items < 1024 }
+fn gather_chunks<'p>(rest: &mut Vec<u8>, text: &mut Vec<u8>, piece: &'p [u8]) -> &'p [u8]
+    requires short { length rest.old.items < 1024 }
+    requires rest_room { 1024 ≤ vec_capacity rest.old }
+    requires text_room { 8248 ≤ vec_capacity text.old }
     ensures gathers { Gathers rest.old.items piece.now text.new.items rest.new.items result.now }
     ensures some { 1024 ≤ length rest.old.items + length piece.now → 0 < length text.new.items }
     ensures short { length rest.new.items < 1024 }
+    ensures rest_room { 1024 ≤ vec_capacity rest.new }
+    ensures text_room { 8248 ≤ vec_capacity text.new }
 {
     text.clear();
     let mut left = piece;
-    'chunks: while CHUNK - rest.len() <= left.len() && FULL_CHUNK <= text.remaining_capacity() {
+    'chunks: while CHUNK - rest.len() <= left.len() && text.len() + FULL_CHUNK <= BATCH {
         let (bytes, after) = left.split_at(CHUNK - rest.len());
         append_chunk(text, rest.as_slice(), bytes);
         rest.clear();
@@ -136,50 +145,43 @@ fn gather_chunks<'p>(
 }
 
 /// Appends the full chunk of these bytes and those after them, for which there is room.
-fn append_chunk(text: &mut ArrayVec<u8, BATCH>, prefix: &[u8], back: &[u8])
+fn append_chunk(text: &mut Vec<u8>, prefix: &[u8], back: &[u8])
     requires full { length prefix.now + length back.now ≡ 1024 }
-    requires room { length text.old.items + 1031 ≤ 8248 }
-    ensures { text.new.items ≡ text.old.items ++ chunk (prefix.now ++ back.now) }
+    requires room { vec_len text.old + 1031 ≤ vec_capacity text.old }
+    ensures chunk { text.new.items ≡ text.old.items ++ chunk (prefix.now ++ back.now) }
+    ensures capacity { vec_capacity text.old ≤ vec_capacity text.new }
 {
-    extend(text, b"400\r\n");
-    extend(text, prefix);
-    extend(text, back);
-    extend(text, b"\r\n");
+    append(text, b"400\r\n");
+    append(text, prefix);
+    append(text, back);
+    append(text, b"\r\n");
 }
 
 /// Puts a chunk of the rest, where there is a rest, and the last chunk, by one push.
-fn put_end<O: Sink>(rest: &[u8], text: &mut ArrayVec<u8, BATCH>, sink: &mut O) -> Result<(), Failed>
+fn put_end<O: Sink>(rest: &[u8], text: &mut Vec<u8>, sink: &mut O) -> Result<(), Failed>
     requires short { length rest.now < 1024 }
-    requires idle { text.old.items ≡ [] }
+    requires room { 8248 ≤ vec_capacity text.old }
     ensures puts { Puts O.Sink result sink.old sink.new (rest_chunk rest.now ++ last_chunk) }
-    ensures idle { text.new.items ≡ [] }
+    ensures room { 8248 ≤ vec_capacity text.new }
 {
     if rest.is_empty() {
         push_nonempty(b"0\r\n\r\n", sink)
     } else {
         gather_last_chunks(rest, text);
-        put_text(text, sink)
+        push_nonempty(text.as_slice(), sink)
     }
 }
 
-/// Fills the text with the chunk of a rest and the last chunk.
-fn gather_last_chunks(rest: &[u8], text: &mut ArrayVec<u8, BATCH>)
-    requires { length rest.now < 1024 }
-    ensures { text.new.items ≡ chunk rest.now ++ last_chunk }
+/// Makes the text the chunk of a rest and the last chunk.
+fn gather_last_chunks(rest: &[u8], text: &mut Vec<u8>)
+    requires short { length rest.now < 1024 }
+    requires room { 8248 ≤ vec_capacity text.old }
+    ensures chunks { text.new.items ≡ chunk rest.now ++ last_chunk }
+    ensures room { 8248 ≤ vec_capacity text.new }
 {
     text.clear();
-    extend(text, hexadecimal(rest.len()).as_slice());
-    extend(text, b"\r\n");
-    extend(text, rest);
-    extend(text, b"\r\n0\r\n\r\n");
-}
-
-/// Puts the text by one push, and empties it.
-fn put_text<O: Sink>(text: &mut ArrayVec<u8, BATCH>, sink: &mut O) -> Result<(), Failed>
-    ensures puts { Puts O.Sink result sink.old sink.new text.old.items }
-    ensures idle { text.new.items ≡ [] }
-{
-    let put = push_nonempty(text.as_slice(), sink);
-    text.clear();
-    put
+    append(text, hexadecimal(rest.len()).as_slice());
+    append(text, b"\r\n");
+    append(text, rest);
+    append(text, b"\r\n0\r\n\r\n");
 }
