@@ -219,25 +219,40 @@ mod tests {
         ("http://a.test:+80/", None),
     ];
 
+    /// What a proxy answers to these bytes of a client, in pieces of this size.
+    fn heard(
+        alloc: Global,
+        proxy: &mut Proxy,
+        bytes: &[u8],
+        size: usize,
+    ) -> Result<Result<(), ProxyRefusal>, Fail> {
+        let mut client = NeverFails::new(bytes.to_vec(alloc)?, size.max(1));
+        Ok(proxy.request(alloc, &mut client))
+    }
+
+    /// What a proxy answers to a request for the target.
+    fn heard_target(
+        alloc: Global,
+        proxy: &mut Proxy,
+        target: &str,
+    ) -> Result<Result<(), ProxyRefusal>, Fail> {
+        let mut head = b"GET ".to_vec(alloc)?;
+        head.extend_from_slice(target.as_bytes())?;
+        head.extend_from_slice(b" HTTP/1.1\r\n\r\n")?;
+        heard(alloc, proxy, head.as_slice(), 7)
+    }
+
     #[test]
     fn targets_are_taken_or_refused(rt: HostRuntime) -> Result<(), Fail> {
         let alloc = rt.alloc();
         let mut proxy = Proxy::open(alloc, LIMIT)?;
         for (target, owed) in &TARGETS {
-            let mut head = b"GET ".to_vec(alloc)?;
-            head.extend_from_slice(target.as_bytes())?;
-            head.extend_from_slice(b" HTTP/1.1\r\n\r\n")?;
-            let heard = proxy.request(alloc, &mut NeverFails::new(head, 7));
-            let refused = owed.is_none();
-            assert_eq!(rt;
-                heard,
-                if refused {
-                    Err(ProxyRefusal::BadTarget)
-                } else {
-                    Ok(())
-                },
-                "{target}"
-            );
+            let answer = heard_target(alloc, &mut proxy, target)?;
+            let owed_answer = match owed {
+                Some(_) => Ok(()),
+                None => Err(ProxyRefusal::BadTarget),
+            };
+            assert_eq!(rt; answer, owed_answer, "{target}");
             let taken = match &proxy.asked {
                 Some(asked) => Some((host_of(&asked.target), asked.target.port)),
                 None => None,
@@ -267,8 +282,7 @@ mod tests {
         let sent_on =
             b"PUT /?q HTTP/1.1\r\nHost: a.test\r\nAccept: x\r\nX: \r\nConnection: close\r\n\r\n";
         let mut proxy = Proxy::open(alloc, LIMIT)?;
-        let mut client = NeverFails::new(head.to_vec(alloc)?, 100);
-        assert_eq!(rt; proxy.request(alloc, &mut client), Ok(()));
+        assert_eq!(rt; heard(alloc, &mut proxy, head, 100)?, Ok(()));
         assert_eq!(rt; proxy.text.as_slice(), sent_on.as_slice());
         Ok(())
     }
@@ -314,24 +328,28 @@ mod tests {
             assert_eq!(rt; proxy.media.admit(id), Ok(()));
         }
         for (bytes, refusal) in &REFUSED {
-            let mut client = NeverFails::new(bytes.to_vec(alloc)?, 1);
-            assert_eq!(rt; proxy.request(alloc, &mut client), Err(*refusal));
+            assert_eq!(rt; heard(alloc, &mut proxy, bytes, 1)?, Err(*refusal));
             assert!(rt; proxy.asked.is_none());
         }
-        let mut long = Vec::new(alloc);
-        for _ in 0..65_536 {
-            long.push(b'a')?;
-        }
+        let long = [b'a'; 65_536];
         assert_eq!(rt;
-            proxy.request(alloc, &mut NeverFails::new(long, 9000)),
+            heard(alloc, &mut proxy, &long, 9000)?,
             Err(ProxyRefusal::HeadLimit)
         );
-        let mut failing = MemorySource::new(b"GET".to_vec(alloc)?, 1, [2].to_vec(alloc)?);
         assert_eq!(rt;
-            proxy.request(alloc, &mut failing),
+            heard_at_fault(alloc, &mut proxy)?,
             Err(ProxyRefusal::ReadFault)
         );
         Ok(())
+    }
+
+    /// What a proxy answers to a client whose third pull fails.
+    fn heard_at_fault(
+        alloc: Global,
+        proxy: &mut Proxy,
+    ) -> Result<Result<(), ProxyRefusal>, Fail> {
+        let mut client = MemorySource::new(b"GET".to_vec(alloc)?, 1, [2].to_vec(alloc)?);
+        Ok(proxy.request(alloc, &mut client))
     }
 
     /// A request for a script.
@@ -397,8 +415,21 @@ mod tests {
         (MARKED, &[], &[], &[0], WriteFault, b""),
     ];
 
-    /// Takes the request, and answers it.
-    fn answer(
+    /// Upstream: its response, in pieces of this size, and its pulls and pushes that fail.
+    fn upstream(
+        alloc: Global,
+        response: &[u8],
+        size: usize,
+        pulls: &[u64],
+        pushes: &[u64],
+    ) -> Result<MemoryLink, Fail> {
+        let source = MemorySource::new(response.to_vec(alloc)?, size.max(1), pulls.to_vec(alloc)?);
+        let sink = MemorySink::open(alloc, 200, pushes.to_vec(alloc)?)?;
+        Ok(MemoryLink::new(source, sink))
+    }
+
+    /// How the request is answered by this upstream.
+    fn answered(
         alloc: Global,
         proxy: &mut Proxy,
         upstream: &mut MemoryLink,
@@ -411,22 +442,31 @@ mod tests {
         }
     }
 
+    /// Whether a row is answered as it is owed, in pieces of this size.
+    fn is_answered(
+        alloc: Global,
+        proxy: &mut Proxy,
+        row: (&[u8], &[u64], &[u64], &[u64]),
+        size: usize,
+        owed: (ProxyOutcome, &[u8]),
+    ) -> Result<bool, Fail> {
+        let (response, pulls, sends, pushes) = row;
+        let mut link = upstream(alloc, response, size, pulls, sends)?;
+        let mut client = MemorySink::open(alloc, 200, pushes.to_vec(alloc)?)?;
+        let outcome = answered(alloc, proxy, &mut link, &mut client)?;
+        let sent_on = !sends.is_empty() || link.sink().bytes() == SENT_ON;
+        Ok(sent_on && outcome == owed.0 && client.bytes() == owed.1)
+    }
+
     #[test]
     fn responses_are_shown_or_refused(rt: HostRuntime) -> Result<(), Fail> {
         let alloc = rt.alloc();
         let mut proxy = Proxy::open(alloc, LIMIT)?;
         for (response, pulls, sends, pushes, outcome, shown) in &ROWS {
+            let row = (*response, *pulls, *sends, *pushes);
             for size in [1, 200] {
-                let source = MemorySource::new(response.to_vec(alloc)?, size, pulls.to_vec(alloc)?);
-                let sink = MemorySink::open(alloc, 200, sends.to_vec(alloc)?)?;
-                let mut upstream = MemoryLink::new(source, sink);
-                let mut client = MemorySink::open(alloc, 200, pushes.to_vec(alloc)?)?;
-                let answered = answer(alloc, &mut proxy, &mut upstream, &mut client)?;
-                assert_eq!(rt; answered, *outcome);
-                assert_eq!(rt; client.bytes(), *shown);
-                if sends.is_empty() {
-                    assert_eq!(rt; upstream.sink().bytes(), SENT_ON);
-                }
+                let right = is_answered(alloc, &mut proxy, row, size, (*outcome, *shown))?;
+                assert!(rt; right, "{outcome:?} in pieces of {size}");
             }
         }
         Ok(())
