@@ -4,7 +4,7 @@ use Rattle.std.proofs.Common.{◌≡◌, ℕ, zero, suc, ◌+◌, ◌*◌, false
 use Rattle.std.proofs.lemmas.Bool.{false≢true}
 use Rattle.std.proofs.lemmas.Bool.Decides.{nat_tests}
 use Rattle.http_exchange.specs.Marks.{Mark, Frame, Content, bytes_of, content_of}
-use Rattle.http_exchange.specs.Chunked.{spell, IsChunkedPrefix, IsChunkedWhole}
+use Rattle.http_exchange.specs.Chunked.{chunked_marks, IsChunkedPrefix, IsChunkedWhole}
 use Rattle.http_exchange.specs.Places.{is_dead, with_left, step, run, marks, gives}
 use Rattle.http_exchange.specs.declared.places.Place.{Place}
 use Rattle.http_exchange.specs.declared.places.Place.TheVariants.{Size, SizeEnding, SizeLf, Data, DataCr, DataLf, LineStart, TrailerLine, TrailerLf, LastLf, Whole, Dead}
@@ -110,4 +110,4 @@ whole_of_end m whole =
 
 pub end_of_whole : (m : List ℕ) → IsChunkedWhole m → run (Size 0 0) m ≡ Whole
 end_of_whole m h =
-    ap (run (Size 0 0)) (sym h.spells) ∙ follows_run (Size 0 0) (spell h.body) Whole (body_follows h.body h.good)
+    ap (run (Size 0 0)) (sym h.spells) ∙ follows_run (Size 0 0) (chunked_marks h.body) Whole (body_follows h.body h.good)

@@ -8,7 +8,7 @@ use Rattle.std.proofs.lemmas.Bool.{and_from}
 use Rattle.std.proofs.lemmas.Bool.Decides.{nat_tests}
 use Rattle.http_exchange.specs.Marks.{Mark, Frame, Content, framing, content}
 use Rattle.orb_bytes.specs.Ascii.{crlf}
-use Rattle.http_exchange.specs.Chunked.{is_line_byte, is_separator, is_ending, is_trailer, SizeLine, IsSizeLine, size_of, Chunked, chunk, last, IsChunked, spell_size, spell_trailers, spell}
+use Rattle.http_exchange.specs.Chunked.{is_line_byte, is_separator, is_ending, is_trailer, SizeLine, IsSizeLine, size_of, Chunked, chunk, last, IsChunked, size_marks, trailers_marks, chunked_marks}
 use Rattle.http_exchange.specs.Places.{is_content, with_left, after_size, step, run, marks}
 use Rattle.http_exchange.specs.declared.places.Place.{Place}
 use Rattle.http_exchange.specs.declared.places.Place.TheVariants.{Size, SizeEnding, SizeLf, Data, DataCr, DataLf, LineStart, TrailerLine, TrailerLf, LastLf, Whole, Dead}
@@ -17,13 +17,13 @@ use Rattle.http_exchange.specs.declared.places.Place.TheVariants.{Size, SizeEndi
 pub record BodyLeft (k : List Mark) : Type 0 where
   pub body : Chunked
   pub good : IsChunked body
-  pub is : k ≡ spell body
+  pub is : k ≡ chunked_marks body
 
 -- trailers and the empty line
 pub record TrailersLeft (k : List Mark) : Type 0 where
   pub trailers : List (List ℕ)
   pub good : list_all is_trailer trailers ≡ true
-  pub is : k ≡ spell_trailers trailers
+  pub is : k ≡ trailers_marks trailers
 
 -- so many content bytes, and the rest of the body
 pub record DataLeft (n : ℕ) (k : List Mark) : Type 0 where
@@ -217,16 +217,16 @@ size_back n d b k h =
 line_of : (digits ending : List ℕ) → SizeLine
 line_of digits ending = record { digits = digits; ending = ending }
 
-body_of : (l : SizeLine) (n : ℕ) (rest : List Mark) → IsSizeLine l → size_of l ≡ n → AfterLineLeft n rest → BodyLeft (spell_size l rest)
+body_of : (l : SizeLine) (n : ℕ) (rest : List Mark) → IsSizeLine l → size_of l ≡ n → AfterLineLeft n rest → BodyLeft (size_marks l rest)
 body_of l zero rest good is h = record {
   body = last l h.trailers;
   good = (good, is, h.good);
-  is = ap (spell_size l) h.is;
+  is = ap (size_marks l) h.is;
 }
 body_of l (suc n) rest good is h = record {
   body = chunk l h.load h.body.body;
   good = (good, omega (arith, is), h.long ∙ sym is, h.body.good);
-  is = ap (spell_size l) (h.is ∙ ap (λ r. content h.load (framing crlf r)) h.body.is);
+  is = ap (size_marks l) (h.is ∙ ap (λ r. content h.load (framing crlf r)) h.body.is);
 }
 
 pub body_left : (k : List Mark) → SizeLeft 0 0 k → BodyLeft k

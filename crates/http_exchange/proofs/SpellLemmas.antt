@@ -7,7 +7,7 @@ use Rattle.std.proofs.lemmas.Bool.{and_parts}
 use Rattle.std.proofs.lemmas.Bool.Decides.{nat_tests}
 use Rattle.http_exchange.specs.Marks.{Mark, Frame, Content, bytes_of, framing, content}
 use Rattle.orb_bytes.specs.Ascii.{crlf}
-use Rattle.http_exchange.specs.Chunked.{is_line_byte, is_separator, is_ending, is_trailer, SizeLine, IsSizeLine, size_of, Chunked, chunk, last, IsChunked, spell_size, spell_trailers, spell}
+use Rattle.http_exchange.specs.Chunked.{is_line_byte, is_separator, is_ending, is_trailer, SizeLine, IsSizeLine, size_of, Chunked, chunk, last, IsChunked, size_marks, trailers_marks, chunked_marks}
 use Rattle.http_exchange.specs.Places.{is_content, with_left, after_size, step, run, marks}
 use Rattle.http_exchange.specs.declared.places.Place.{Place}
 use Rattle.http_exchange.specs.declared.places.Place.TheVariants.{Size, SizeEnding, SizeLf, DataCr, LineStart, TrailerLine, Whole}
@@ -71,7 +71,7 @@ ends_line (b ∷ bytes) n d rest q some good h =
     )
 
 size_follows : (l : SizeLine) (rest : List Mark) (q : Place) → IsSizeLine l → Follows (after_size (size_of l)) rest q
-    → Follows (Size 0 0) (spell_size l rest) q
+    → Follows (Size 0 0) (size_marks l rest) q
 size_follows l rest q good h =
     digits_follow l.digits 0 0 (length l.digits) _ q good.hex (omega (arith, good.few)) (omega arith)
     (ends_line l.ending (size_of l) (length l.digits) rest q good.some good.ending h)
@@ -102,13 +102,13 @@ trailer_follows (b ∷ bytes) rest q good h =
     let bytes_parts = and_parts (is_line_byte b) (list_all is_line_byte bytes) parts.1 in
     (refl, at (step LineStart b) TrailerLine _ q (rw bytes_parts.0 refl) (line_follows bytes rest q bytes_parts.1 h))
 
-trailers_follow : (texts : List (List ℕ)) → list_all is_trailer texts ≡ true → Follows LineStart (spell_trailers texts) Whole
+trailers_follow : (texts : List (List ℕ)) → list_all is_trailer texts ≡ true → Follows LineStart (trailers_marks texts) Whole
 trailers_follow [] all = (refl, (refl, refl))
 trailers_follow (text ∷ texts) all =
     let parts = and_parts (is_trailer text) (list_all is_trailer texts) all in
-    trailer_follows text (spell_trailers texts) Whole parts.0 (trailers_follow texts parts.1)
+    trailer_follows text (trailers_marks texts) Whole parts.0 (trailers_follow texts parts.1)
 
-pub body_follows : (c : Chunked) → IsChunked c → Follows (Size 0 0) (spell c) Whole
+pub body_follows : (c : Chunked) → IsChunked c → Follows (Size 0 0) (chunked_marks c) Whole
 body_follows (chunk line load others) good =
     size_follows line _ Whole good.0
     (at (after_size (size_of line)) (with_left (length load)) _ Whole

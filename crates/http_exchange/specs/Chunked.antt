@@ -54,24 +54,24 @@ IsChunked (last line trailers) =
     IsSizeLine line × (size_of line ≡ 0) × (list_all is_trailer trailers ≡ true)
 
 -- the line of a size as it is sent, and what follows it
-abbrev pub spell_size : SizeLine → List Mark → List Mark
-spell_size l rest = framing l.digits (framing l.ending (framing crlf rest))
+abbrev pub size_marks : SizeLine → List Mark → List Mark
+size_marks l rest = framing l.digits (framing l.ending (framing crlf rest))
 
 -- the trailers, and the empty line that ends the body
-abbrev pub spell_trailers : List (List ℕ) → List Mark
-spell_trailers [] = framing crlf []
-spell_trailers (text ∷ texts) = framing text (framing crlf (spell_trailers texts))
+abbrev pub trailers_marks : List (List ℕ) → List Mark
+trailers_marks [] = framing crlf []
+trailers_marks (text ∷ texts) = framing text (framing crlf (trailers_marks texts))
 
 -- a chunked body as it is sent
-abbrev pub spell : Chunked → List Mark
-spell (chunk line bytes others) = spell_size line (content bytes (framing crlf (spell others)))
-spell (last line trailers) = spell_size line (spell_trailers trailers)
+abbrev pub chunked_marks : Chunked → List Mark
+chunked_marks (chunk line bytes others) = size_marks line (content bytes (framing crlf (chunked_marks others)))
+chunked_marks (last line trailers) = size_marks line (trailers_marks trailers)
 
 -- the bytes are a whole chunked body
 pub record IsChunkedWhole (m : List ℕ) : Type 0 where
   pub body : Chunked
   pub good : IsChunked body
-  pub spells : bytes_of (spell body) ≡ m
+  pub spells : bytes_of (chunked_marks body) ≡ m
 
 -- a chunked body begins with the bytes, and among them these are the content bytes
 pub record IsChunkedPrefix (m given : List ℕ) : Type 0 where
@@ -79,6 +79,6 @@ pub record IsChunkedPrefix (m given : List ℕ) : Type 0 where
   pub good : IsChunked body
   pub prefix : List Mark
   pub rest : List Mark
-  pub spells : spell body ≡ prefix ++ rest
+  pub spells : chunked_marks body ≡ prefix ++ rest
   pub reads : bytes_of prefix ≡ m
   pub gives : content_of prefix ≡ given

@@ -1,18 +1,18 @@
 -- What is answered of responses of the same bytes, and of longer ones.
-use Rattle.std.proofs.Common.{◌≡◌, ℕ, Bool, true, false, cond, ◌&&◌, List, [], ◌∷◌, ◌++◌, Err, inl, inr, refl, sym, ap, subst, ◌∙◌, append_assoc}
+use Rattle.std.proofs.Common.{◌≡◌, ℕ, Bool, true, false, cond, ◌&&◌, List, [], ◌∷◌, ◌++◌, inl, inr, refl, sym, ap, subst, ◌∙◌, append_assoc}
 use Rattle.std.proofs.lemmas.Bool.{false≢true}
 use Rattle.std.proofs.lemmas.List.{append-nil}
 use Rattle.orb_io.specs.Told.{IsPrefix}
 use Rattle.orb_io.proofs.ToldLemmas.{IsPrefix-all, IsPrefix-none, IsPrefix-trans}
 use Rattle.http_exchange.specs.Frames.{IsBodyPrefix, IsWhole}
-use Rattle.http_exchange.proofs.UnframerLemmas.{one_prefix, last_byte}
+use Rattle.http_exchange.proofs.UnframerLemmas.{one_prefix}
 use Rattle.body_filter.specs.Responses.{Response, output_so_far, whole_output}
 use Rattle.body_filter.proofs.LawLemmas.{prefix-grows, prefix-whole_now}
 use Rattle.exchanges.specs.Heads.{ResponseText, is_to_end}
 use Rattle.exchanges.specs.declared.room.Context.{Context}
 use Rattle.exchanges.proofs.HeadLaws.{view-stands, view-long, opens, Answer, AnswerOpens, AnswerLong, AnswerBad, Answered, IsAnswer, one_answer}
-use Rattle.exchanges.proofs.BodyLaws.{GoesOn, one_goes_on, longer_prefix, within_stuck, same_whole, whole_not_open, whole_not_stuck, open_not_stuck, same_stuck}
-use Rattle.live_proxy.specs.Responses.{Coming, InHead, InBody, Whole, LongHead, BadHead, BadBody, spell, IsComing, IsResponse, IsOpenBody, IsWholeBody, IsBadBody, is_open, end_of, response_in, shown, state_after, state_left}
+use Rattle.exchanges.proofs.BodyLaws.{one_goes_on, longer_prefix, within_stuck, same_whole, whole_not_open, whole_not_stuck, open_not_stuck, same_stuck}
+use Rattle.live_proxy.specs.Responses.{Coming, InHead, InBody, Whole, LongHead, BadHead, BadBody, coming_text, IsComing, IsResponse, IsOpenBody, IsWholeBody, IsBadBody, is_open, end_of, response_in, shown, state_after}
 
 -- ---- one response
 
@@ -26,7 +26,7 @@ answer_of (BadHead head kind) more = AnswerBad head kind
 answer_of (BadBody r sent body b) more = Answered r (sent ++ (b ∷ more))
 
 is_answer : (to_head : Bool) (c : Coming) (more : List ℕ) → IsComing to_head c → (is_open c ≡ true → more ≡ [])
-    → IsAnswer to_head (spell c more) (answer_of c more)
+    → IsAnswer to_head (coming_text c more) (answer_of c more)
 is_answer to_head (InHead head) more h last = opens head more (last refl) h
 is_answer to_head (InBody r sent body) more h last = (view-stands r.bytes (sent ++ more) h.head.text, h.head)
 is_answer to_head (Whole r sent body) more h last = (view-stands r.bytes (sent ++ more) h.head.text, h.head)
@@ -119,7 +119,7 @@ bad_bad to_head r q m g n c more others b d x y e =
     }
 
 alike : (to_head : Bool) (a b : Coming) (more others : List ℕ) → IsComing to_head a → IsComing to_head b
-    → (is_open a ≡ true → more ≡ []) → (is_open b ≡ true → others ≡ []) → spell a more ≡ spell b others
+    → (is_open a ≡ true → more ≡ []) → (is_open b ≡ true → others ≡ []) → coming_text a more ≡ coming_text b others
     → answer_of a more ≡ answer_of b others → IsAlike a b
 alike to_head (InHead m) (InHead n) p q x y end last spells e = record {
   end = λ ended. refl;
@@ -188,7 +188,7 @@ shut-stays to_head bytes more a after h shut = record {
   last = λ is. absurd (false≢true (sym shut ∙ is));
 }
   where
-    spelled : (k : Coming) (p q : List ℕ) → spell k p ++ q ≡ spell k (p ++ q)
+    spelled : (k : Coming) (p q : List ℕ) → coming_text k p ++ q ≡ coming_text k (p ++ q)
     spelled (InHead head) p q = append_assoc head p q
     spelled (InBody r m g) p q = append_assoc r.bytes (m ++ p) q ∙ ap (λ l. r.bytes ++ l) (append_assoc m p q)
     spelled (Whole r m g) p q = append_assoc r.bytes (m ++ p) q ∙ ap (λ l. r.bytes ++ l) (append_assoc m p q)

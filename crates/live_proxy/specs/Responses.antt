@@ -33,13 +33,13 @@ pub data Coming : Type 0 where
   BadBody : ResponseText → (sent body : List ℕ) → (b : ℕ) → Coming
 
 -- as it was sent, before what follows
-abbrev pub spell : Coming → List ℕ → List ℕ
-spell (InHead head) rest = head ++ rest
-spell (InBody r sent body) rest = r.bytes ++ (sent ++ rest)
-spell (Whole r sent body) rest = r.bytes ++ (sent ++ rest)
-spell (LongHead head) rest = head ++ rest
-spell (BadHead head kind) rest = head ++ rest
-spell (BadBody r sent body b) rest = r.bytes ++ (sent ++ (b ∷ rest))
+abbrev pub coming_text : Coming → List ℕ → List ℕ
+coming_text (InHead head) rest = head ++ rest
+coming_text (InBody r sent body) rest = r.bytes ++ (sent ++ rest)
+coming_text (Whole r sent body) rest = r.bytes ++ (sent ++ rest)
+coming_text (LongHead head) rest = head ++ rest
+coming_text (BadHead head kind) rest = head ++ rest
+coming_text (BadBody r sent body b) rest = r.bytes ++ (sent ++ (b ∷ rest))
 
 -- a good head, and a body that isn't whole
 pub record IsOpenBody (to_head : Bool) (r : ResponseText) (sent body : List ℕ) : Type 0 where
@@ -79,7 +79,7 @@ is_open (BadBody r sent body b) = false
 
 -- the bytes are this of a response, and after it some that are not looked at
 pub record IsResponse (to_head : Bool) (bytes : List ℕ) (c : Coming) (more : List ℕ) : Type 0 where
-  pub spells : bytes ≡ spell c more
+  pub spells : bytes ≡ coming_text c more
   pub is : IsComing to_head c
   pub last : is_open c ≡ true → more ≡ []
 

@@ -19,7 +19,7 @@ use Rattle.http_exchange.proofs.UnframerLemmas.{whole_prefix}
 use Rattle.exchanges.specs.Heads.{Heads, AreHeads, id_of}
 use Rattle.orb_engine.specs.declared.settings.Settings.{Settings}
 use Rattle.orb_engine.specs.Recording as cut
-use Rattle.orb_engine.specs.Recording.{Exchange, Tail, Recording, IsRecording, AreExchanges, IsTail, is_open, spell_heads, spell_exchanges, spell_tail, table_after, table_after_all}
+use Rattle.orb_engine.specs.Recording.{Exchange, Tail, Recording, IsRecording, AreExchanges, IsTail, is_open, heads_text, exchanges_text, tail_text, table_after, table_after_all}
 use Rattle.orb_engine.specs.Ends.{End, Open, Done, Bad, Cut, HeadLimit, MediaFull, stop_at, stop_of}
 use Rattle.exchanges.proofs.BodyLaws.{same_whole}
 use Rattle.orb_engine.proofs.TailLaws.{whole_not_sending, whole_not_bad, alone}
@@ -49,7 +49,7 @@ record Meets (x : Sent) (rest : List ℕ) (h : Heads) (after : List ℕ) : Type 
   same : x.body ++ rest ≡ after
 
 met : (table : States) (x : Sent) (rest : List ℕ) (h : Heads) (after : List ℕ) → IsSent x → AreHeads table h
-    → x.request ++ (x.response ++ (x.body ++ rest)) ≡ spell_heads h after → Meets x rest h after
+    → x.request ++ (x.response ++ (x.body ++ rest)) ≡ heads_text h after → Meets x rest h after
 met table x rest h after s are e =
     let asks = h.request.asks in
     let tree = are.response.tree in
@@ -70,7 +70,7 @@ met table x rest h after s are e =
 -- ---- tails
 
 -- after the last exchange
-after_all : (table : States) (tail : Tail) (more : List ℕ) (offset : ℕ) → IsTail table tail → [] ≡ spell_tail tail more
+after_all : (table : States) (tail : Tail) (more : List ℕ) (offset : ℕ) → IsTail table tail → [] ≡ tail_text tail more
     → IsLogEnd (stop_at offset true tail)
 after_all table (cut.InRequestHead []) more offset is e = tt
 after_all table (cut.InRequestHead (b ∷ head)) more offset is e = absurd (cc e)
@@ -93,7 +93,7 @@ no_id asks none = ap (λ id. cond asks.media id None) none ∙ either asks.media
 
 -- before the end of an exchange
 in_one : (table : States) (x : Sent) (rest : List ℕ) (tail : Tail) (more : List ℕ) (offset : ℕ) → IsSent x → IsTail table tail
-    → (is_open tail ≡ true → more ≡ []) → x.request ++ (x.response ++ (x.body ++ rest)) ≡ spell_tail tail more
+    → (is_open tail ≡ true → more ≡ []) → x.request ++ (x.response ++ (x.body ++ rest)) ≡ tail_text tail more
     → IsLogEnd (stop_at offset true tail)
 in_one table x rest (cut.InRequestHead head) more offset s is last e =
     absurd (head_not_open x.request _ head s.request is.open_ (e ∙ alone head more (last refl)))
@@ -119,7 +119,7 @@ in_one table x rest (cut.BadBody h sent body b) more offset s is last e =
 -- ---- exchange by exchange
 
 ends_by : (s : Settings) (table : States) (sent : List Sent) (exchanges : List Exchange) (tail : Tail) (more : List ℕ) (offset : ℕ)
-    → All IsSent sent → flat_map sent_text sent ≡ spell_exchanges exchanges (spell_tail tail more) → AreExchanges s table exchanges
+    → All IsSent sent → flat_map sent_text sent ≡ exchanges_text exchanges (tail_text tail more) → AreExchanges s table exchanges
     → IsTail (table_after_all table exchanges) tail → (is_open tail ≡ true → more ≡ []) → IsLogEnd (stop_at offset true tail)
 ends_by s table [] [] tail more offset each e are is last = after_all table tail more offset is e
 ends_by s table [] (i ∷ exchanges) tail more offset each e are is last =
@@ -129,7 +129,7 @@ ends_by s table (x ∷ sent) [] tail more offset each e are is last =
     (sym (cut_sent x (flat_map sent_text sent)) ∙ e)
 ends_by s table (x ∷ sent) (i ∷ exchanges) tail more offset each e are is last =
     let rest = flat_map sent_text sent in
-    let others = spell_exchanges exchanges (spell_tail tail more) in
+    let others = exchanges_text exchanges (tail_text tail more) in
     let frame = i.heads.response.frame in
     let m = met table x rest i.heads (i.sent ++ others) (All-head IsSent x sent each) are.0.heads (sym (cut_sent x rest) ∙ e) in
     let whole = whole_prefix frame x.body m.whole in

@@ -12,15 +12,15 @@ use Rattle.orb_engine.specs.declared.settings.Settings.{Settings}
 use Rattle.exchanges.specs.Heads.{is_to_end}
 use Rattle.orb_engine.specs.Judged.{response_of}
 use Rattle.orb_engine.specs.Recording as cut
-use Rattle.orb_engine.specs.Recording.{Exchange, Tail, Recording, IsRecording, spell_exchanges, spell_tail, table_after_all, is_open}
+use Rattle.orb_engine.specs.Recording.{Exchange, Tail, Recording, IsRecording, exchanges_text, tail_text, table_after_all, is_open}
 use Rattle.orb_engine.specs.Ends.{Open, stop_at, stop_of}
 use Rattle.orb_engine.specs.Outputs.{written_so_far, written_whole, written_exchanges, written_tail, output_of}
 use Rattle.orb_engine.specs.Counts.{rules_of_exchanges, rules_of_tail, rules_of}
 use Rattle.orb_engine.specs.Refusals.{IsAnsweredAs}
 use Rattle.orb_engine.proofs.OutputLaws.{written_so_far-whole}
 use Rattle.orb_engine.proofs.TailLaws.{IsAlike}
-use Rattle.orb_engine.proofs.ExchangeLaws.{spell_tail-append}
-use Rattle.orb_engine.proofs.RecordingLaws.{IsCut, one_cut, spell_exchange-append, Grows, grow_cut}
+use Rattle.orb_engine.proofs.ExchangeLaws.{tail_text-append}
+use Rattle.orb_engine.proofs.RecordingLaws.{IsCut, one_cut, exchange_text-append, Grows, grow_cut}
 
 cut_of : (s : Settings) (m : List ℕ) (a : Recording) → IsRecording s m a → IsCut s finite.empty m a.exchanges a.tail a.more
 cut_of s m a h = record { spells = h.spells; whole = h.exchanges; stands = h.tail; last = h.last }
@@ -45,8 +45,8 @@ pub one-stop : (s : Settings) (m : List ℕ) (a b : Recording) → IsRecording s
 unfolding stop_of
 one-stop s m a b x y ended =
     let same = same_of s m a b x y in
-    ap (λ exchanges. stop_at (length (spell_exchanges exchanges [])) ended a.tail) same.exchanges
-    ∙ same.tails.stop (length (spell_exchanges b.exchanges [])) ended
+    ap (λ exchanges. stop_at (length (exchanges_text exchanges [])) ended a.tail) same.exchanges
+    ∙ same.tails.stop (length (exchanges_text b.exchanges [])) ended
 
 pub one-output : (s : Settings) (m : List ℕ) (a b : Recording) → IsRecording s m a → IsRecording s m b → (ended : Bool)
     → output_of s a ended ≡ output_of s b ended
@@ -82,8 +82,8 @@ stop_open offset _ h = absurd (cc)
 pub opens-stop : (a : Recording) → (stop_of a false ≡ Open) ↔ (is_open a.tail ≡ true)
 unfolding stop_of
 opens-stop a = (
-  stop_open (length (spell_exchanges a.exchanges [])) a.tail,
-  open_stop (length (spell_exchanges a.exchanges [])) a.tail,
+  stop_open (length (exchanges_text a.exchanges [])) a.tail,
+  open_stop (length (exchanges_text a.exchanges [])) a.tail,
 )
 
 -- a tail that is not open is answered so whether or not the input has ended
@@ -102,10 +102,10 @@ shut s _ h = record {
   rules = λ table ended. refl;
 }
 
-spell_exchanges-append : (exchanges : List Exchange) (r x : List ℕ) → spell_exchanges exchanges r ++ x ≡ spell_exchanges exchanges (r ++ x)
-spell_exchanges-append [] r x = refl
-spell_exchanges-append (i ∷ exchanges) r x =
-    spell_exchange-append i (spell_exchanges exchanges r) x ∙ ap (λ l. cut.spell_exchange i l) (spell_exchanges-append exchanges r x)
+exchanges_text-append : (exchanges : List Exchange) (r x : List ℕ) → exchanges_text exchanges r ++ x ≡ exchanges_text exchanges (r ++ x)
+exchanges_text-append [] r x = refl
+exchanges_text-append (i ∷ exchanges) r x =
+    exchange_text-append i (exchanges_text exchanges r) x ∙ ap (λ l. cut.exchange_text i l) (exchanges_text-append exchanges r x)
 
 -- the recording, with further bytes that are not looked at
 with_more : Recording → List ℕ → Recording
@@ -115,8 +115,8 @@ with_more-is : (s : Settings) (m x : List ℕ) (a : Recording) → IsRecording s
     → IsRecording s (m ++ x) (with_more a x)
 unfolding with_more
 with_more-is s m x a h closed = record {
-  spells = ap (λ l. l ++ x) h.spells ∙ spell_exchanges-append a.exchanges (spell_tail a.tail a.more) x
-      ∙ ap (spell_exchanges a.exchanges) (spell_tail-append a.tail a.more x);
+  spells = ap (λ l. l ++ x) h.spells ∙ exchanges_text-append a.exchanges (tail_text a.tail a.more) x
+      ∙ ap (exchanges_text a.exchanges) (tail_text-append a.tail a.more x);
   exchanges = h.exchanges;
   tail = h.tail;
   last = λ o. absurd (closed o);
@@ -127,7 +127,7 @@ unfolding with_more stop_of output_of rules_of
 with_more-answers s x a closed =
     let t = shut s a.tail closed in
     record {
-      stop = λ ended. t.stop (length (spell_exchanges a.exchanges [])) ended;
+      stop = λ ended. t.stop (length (exchanges_text a.exchanges [])) ended;
       output = λ ended. ap (λ l. written_exchanges s finite.empty 0 a.exchanges ++ l) (t.written (table_after_all finite.empty a.exchanges) (length a.exchanges) ended);
       rules = λ ended. ap (λ l. rules_of_exchanges a.exchanges ++ l) (t.rules (table_after_all finite.empty a.exchanges) ended);
     }

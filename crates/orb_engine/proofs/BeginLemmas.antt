@@ -19,10 +19,10 @@ use Rattle.orb_engine.specs.declared.engine.states.Asked.{Asked}
 use Rattle.orb_engine.specs.declared.engine.states.Incoming.{Incoming}
 use Rattle.exchanges.specs.Heads.{id_of, is_chunked, is_to_end}
 use Rattle.orb_engine.specs.Judged.{judged_by}
-use Rattle.orb_engine.specs.Recording.{spell_exchanges}
+use Rattle.orb_engine.specs.Recording.{exchanges_text}
 use Rattle.orb_engine.specs.Outputs.{written_exchanges, written_so_far}
 use Rattle.orb_engine.specs.Writing.{WriterReads, gathered_by}
-use Rattle.orb_engine.specs.Reads.{Coming, coming_response, coming_written, spell_coming, table_of, Fills, Breaks, HasReadHeads}
+use Rattle.orb_engine.specs.Reads.{Coming, coming_response, coming_written, coming_text, table_of, Fills, Breaks, HasReadHeads}
 use Rattle.orb_engine.proofs.StepLemmas.{seen-body, breaks-body}
 use Rattle.orb_engine.proofs.PassLemmas.{IsKept, common-kept}
 
@@ -52,9 +52,9 @@ same-exchange asked read e s m given q text chunked text_is chunked_is =
     rw (text_is ∙ q.whole.buffer ∙ sym q.bytes, chunked_is ∙ ap is_chunked q.frame_is) refl
 
 spelled : (asked : Asked) (read : Facts × BodyFrame) (e : Engine) (s : Settings) (m given : List ℕ)
-    (q : HasReadHeads asked read e s m given) → m ≡ spell_coming (begun asked read e s m given q)
+    (q : HasReadHeads asked read e s m given) → m ≡ coming_text (begun asked read e s m given q)
 spelled asked read e s m given q =
-    q.whole.spells ∙ ap (λ t. spell_exchanges q.whole.exchanges (q.whole.request.bytes ++ t)) (sym (append-nil _ ∙ q.bytes))
+    q.whole.spells ∙ ap (λ t. exchanges_text q.whole.exchanges (q.whole.request.bytes ++ t)) (sym (append-nil _ ∙ q.bytes))
 
 -- what is owed of it, after what was given and gathered
 owed : (asked : Asked) (read : Facts × BodyFrame) (e : Engine) (s : Settings) (m given : List ℕ)

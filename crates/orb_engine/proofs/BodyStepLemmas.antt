@@ -16,14 +16,14 @@ use Rattle.orb_engine.specs.declared.outcome.EngineOutcome.TheVariants as outcom
 use Rattle.exchanges.specs.Heads.{Heads}
 use Rattle.orb_engine.specs.Judged.{response_of}
 use Rattle.orb_engine.specs.Recording as cut
-use Rattle.orb_engine.specs.Recording.{Exchange, Tail, IsTail, IsOpenBody, spell_heads, spell_exchanges, spell_tail}
+use Rattle.orb_engine.specs.Recording.{Exchange, Tail, IsTail, IsOpenBody, heads_text, exchanges_text, tail_text}
 use Rattle.orb_engine.specs.Ends as ends
 use Rattle.orb_engine.specs.Ends.{stop_of}
 use Rattle.orb_engine.specs.Outputs.{output_of, written_exchanges, written_so_far}
 use Rattle.orb_engine.specs.Counts.{rules_of, rules_of_exchanges}
 use Rattle.orb_engine.specs.Writing.{gathered_by, body_of}
-use Rattle.orb_engine.specs.Reads.{Coming, coming_written, spell_coming, open_cut, table_of, counts_of, Common, Receives, AtBody, Stands, Reads, Stops, Passes, IsInBody, with_unframer}
-use Rattle.orb_engine.proofs.CutLemmas.{spell_exchanges-append, spell_exchanges-length}
+use Rattle.orb_engine.specs.Reads.{Coming, coming_written, coming_text, open_cut, table_of, counts_of, Common, Receives, AtBody, Stands, Reads, Stops, Passes, IsInBody, with_unframer}
+use Rattle.orb_engine.proofs.CutLemmas.{exchanges_text-append, exchanges_text-length}
 use Rattle.orb_engine.proofs.FillLemmas.{output-body}
 use Rattle.orb_engine.proofs.StepLemmas.{prefix-short}
 use Rattle.orb_engine.proofs.HeadStepLemmas.{IsSameHead, common-same}
@@ -35,7 +35,7 @@ body-at t incoming e s exchanges tail is h = subst (λ (u : State). Stands u e s
 -- an engine in a body
 pub record HasOpenBody (incoming : Incoming) (e : Engine) (s : Settings) (m given : List ℕ) : Type 0 where
   pub coming : Coming
-  pub spells : m ≡ spell_coming coming
+  pub spells : m ≡ coming_text coming
   pub whole : cut.AreExchanges s map.empty coming.exchanges
   pub sending : IsOpenBody (table_of coming.exchanges) coming.heads coming.sent coming.body
   pub gave : given ++ gathered_by e.writer ≡ coming_written s coming
@@ -49,7 +49,7 @@ open-body incoming e s m given r is =
     let a = body-at e.state incoming e s r.exchanges r.tail is r.stands in
     record {
       coming = record { exchanges = r.exchanges; heads = a.heads; sent = a.sent; body = a.body };
-      spells = r.cut.spells ∙ ap (λ t. spell_exchanges r.exchanges (spell_tail t [])) a.is ∙ ap (λ x. spell_exchanges r.exchanges (spell_heads a.heads x)) (append-nil a.sent);
+      spells = r.cut.spells ∙ ap (λ t. exchanges_text r.exchanges (tail_text t [])) a.is ∙ ap (λ x. exchanges_text r.exchanges (heads_text a.heads x)) (append-nil a.sent);
       whole = r.cut.exchanges;
       sending = subst (λ (t : Tail). IsTail (table_of r.exchanges) t) a.is r.cut.tail;
       gave = r.gave ∙ ap (λ t. output_of s (open_cut r.exchanges t) false) a.is ∙ output-body s r.exchanges a.heads a.sent a.body [];
@@ -58,11 +58,11 @@ open-body incoming e s m given r is =
       receives = a.receives;
     }
 
-spell-more : (exchanges : List Exchange) (h : Heads) (sent x : List ℕ)
-    → spell_exchanges exchanges (spell_heads h sent) ++ x ≡ spell_exchanges exchanges (spell_heads h (sent ++ x))
-spell-more exchanges h sent x =
-    spell_exchanges-append exchanges (spell_heads h sent) x
-    ∙ ap (spell_exchanges exchanges) (append_assoc h.request.bytes (h.response.bytes ++ sent) x
+exchanges_text-more : (exchanges : List Exchange) (h : Heads) (sent x : List ℕ)
+    → exchanges_text exchanges (heads_text h sent) ++ x ≡ exchanges_text exchanges (heads_text h (sent ++ x))
+exchanges_text-more exchanges h sent x =
+    exchanges_text-append exchanges (heads_text h sent) x
+    ∙ ap (exchanges_text exchanges) (append_assoc h.request.bytes (h.response.bytes ++ sent) x
     ∙ ap (λ t. h.request.bytes ++ t) (append_assoc h.response.bytes sent x))
 
 pub in-body : (t : State) → IsInBody t → (i : Incoming) × (t ≡ state.Body i)
@@ -81,7 +81,7 @@ body-got incoming u e e' s m given piece body used h same gets taken =
     let c = h.coming in
     record {
       coming = record { exchanges = c.exchanges; heads = c.heads; sent = c.sent ++ take used piece; body = c.body };
-      spells = ap (λ x. x ++ take used piece) h.spells ∙ spell-more c.exchanges c.heads c.sent (take used piece);
+      spells = ap (λ x. x ++ take used piece) h.spells ∙ exchanges_text-more c.exchanges c.heads c.sent (take used piece);
       whole = h.whole;
       good = h.sending.heads;
       prefix = gets.prefix;
@@ -103,9 +103,9 @@ pub body-few : (incoming : Incoming) (u : Unframer) (e : Engine) (s : Settings) 
 body-few incoming u e s m given piece body used h gets few =
     let c = h.coming in
     let short = prefix-short c.heads.response.frame (c.sent ++ take used piece) (c.body ++ body) gets.prefix in
-    let size : length m ≡ length (spell_exchanges c.exchanges []) + length (spell_heads c.heads c.sent) =
-    ap length h.spells ∙ spell_exchanges-length c.exchanges (spell_heads c.heads c.sent) in
-    let heads : length (spell_heads c.heads c.sent) ≡ length c.heads.request.bytes + (length c.heads.response.bytes + length c.sent) =
+    let size : length m ≡ length (exchanges_text c.exchanges []) + length (heads_text c.heads c.sent) =
+    ap length h.spells ∙ exchanges_text-length c.exchanges (heads_text c.heads c.sent) in
+    let heads : length (heads_text c.heads c.sent) ≡ length c.heads.request.bytes + (length c.heads.response.bytes + length c.sent) =
     simp length-append in
     omega (arith, h.taken, h.receives.writer.body, length-append c.body body, length-append c.sent (take used piece), length-take-le used piece gets.within, gets.within)
 
@@ -139,14 +139,14 @@ body-bad incoming u e e' s m given piece at h same refuses =
     let b = get_or piece at 0 in
     let (whole, next) = split-at piece at refuses.bad.within in
     let sent = c.sent ++ take at piece in
-    let size = spell_exchanges-length c.exchanges (spell_heads c.heads c.sent) in
-    let heads : length (spell_heads c.heads c.sent) ≡ length c.heads.request.bytes + (length c.heads.response.bytes + length c.sent) =
+    let size = exchanges_text-length c.exchanges (heads_text c.heads c.sent) in
+    let heads : length (heads_text c.heads c.sent) ≡ length c.heads.request.bytes + (length c.heads.response.bytes + length c.sent) =
     simp length-append in
     record {
       recording = record { exchanges = c.exchanges; tail = cut.BadBody c.heads sent c.body b; more = drop (at + 1) piece };
       cut = record {
-        spells = ap (λ x. x ++ piece) h.spells ∙ spell-more c.exchanges c.heads c.sent piece
-            ∙ ap (λ x. spell_exchanges c.exchanges (spell_heads c.heads x))
+        spells = ap (λ x. x ++ piece) h.spells ∙ exchanges_text-more c.exchanges c.heads c.sent piece
+            ∙ ap (λ x. exchanges_text c.exchanges (heads_text c.heads x))
             (ap (λ x. c.sent ++ x) (sym whole) ∙ sym (append_assoc c.sent (take at piece) (b ∷ drop (at + 1) piece)));
         exchanges = h.whole;
         tail = record {

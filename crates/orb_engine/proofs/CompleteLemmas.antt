@@ -8,7 +8,7 @@ use Rattle.orb_engine.specs.declared.engine.Engine.{Engine}
 use Rattle.orb_engine.specs.declared.outcome.EngineOutcome.{EngineOutcome}
 use Rattle.orb_engine.specs.declared.outcome.EngineOutcome.TheVariants.{Done, Endless, ReadFault, WriteFault}
 use Rattle.orb_engine.specs.Recording as cut
-use Rattle.orb_engine.specs.Recording.{Tail, Recording, IsRecording, spell_exchanges}
+use Rattle.orb_engine.specs.Recording.{Tail, Recording, IsRecording, exchanges_text}
 use Rattle.orb_engine.specs.Ends as ends
 use Rattle.orb_engine.specs.Ends.{End, stop_at, stop_of}
 use Rattle.orb_engine.specs.Reads.{IsStop}
@@ -24,7 +24,7 @@ never_done offset _ h = cc
 
 pub open_not_done : (a : Recording) → stop_of a false ≡ ends.Done → ⊥
 unfolding stop_of
-open_not_done a h = never_done (length (spell_exchanges a.exchanges [])) a.tail h
+open_not_done a h = never_done (length (exchanges_text a.exchanges [])) a.tail h
 
 pub prefix_is_all : (s : Settings) (read rest : List ℕ) (r a : Recording) (ended : Bool)
     → IsWholeRecording s (read ++ rest) r → IsRecording s read a → (ended ≡ true → rest ≡ [])

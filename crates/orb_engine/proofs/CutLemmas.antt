@@ -9,7 +9,7 @@ use Rattle.response_rules.specs.Rules.{is_allowing}
 use Rattle.orb_engine.specs.declared.settings.Settings.{Settings}
 use Rattle.orb_engine.specs.declared.progress.Counts.{Counts}
 use Rattle.orb_engine.specs.Judged.{response_of}
-use Rattle.orb_engine.specs.Recording.{Exchange, IsExchange, AreExchanges, spell_exchange, spell_exchanges, table_after, table_after_all}
+use Rattle.orb_engine.specs.Recording.{Exchange, IsExchange, AreExchanges, exchange_text, exchanges_text, table_after, table_after_all}
 use Rattle.orb_engine.specs.Outputs.{written_exchanges, written_whole}
 use Rattle.orb_engine.specs.Counts.{rules_of_exchanges, count_allowed, count_blocked}
 use Rattle.orb_engine.specs.Progress.{count_with}
@@ -19,19 +19,19 @@ use Rattle.http_exchange.proofs.EndLemmas.{head_length-bounds}
 pair : (a b c d : ℕ) → a ≡ c → b ≡ d → ◌≡◌ {A = Counts} (record { allowed = a; blocked = b }) (record { allowed = c; blocked = d })
 pair a b c d p q = rw (p, q) refl
 
-spell_heads-append : (i : Exchange) (x u : List ℕ) → spell_exchange i x ++ u ≡ spell_exchange i (x ++ u)
-spell_heads-append i x u = simp append_assoc
+heads_text-append : (i : Exchange) (x u : List ℕ) → exchange_text i x ++ u ≡ exchange_text i (x ++ u)
+heads_text-append i x u = simp append_assoc
 
-pub spell_exchanges-append : (exchanges : List Exchange) (x u : List ℕ) → spell_exchanges exchanges x ++ u ≡ spell_exchanges exchanges (x ++ u)
-spell_exchanges-append [] x u = refl
-spell_exchanges-append (i ∷ exchanges) x u = spell_heads-append i (spell_exchanges exchanges x) u ∙ ap (spell_exchange i) (spell_exchanges-append exchanges x u)
+pub exchanges_text-append : (exchanges : List Exchange) (x u : List ℕ) → exchanges_text exchanges x ++ u ≡ exchanges_text exchanges (x ++ u)
+exchanges_text-append [] x u = refl
+exchanges_text-append (i ∷ exchanges) x u = heads_text-append i (exchanges_text exchanges x) u ∙ ap (exchange_text i) (exchanges_text-append exchanges x u)
 
-pub spell_exchanges-length : (exchanges : List Exchange) (x : List ℕ) → length (spell_exchanges exchanges x) ≡ length (spell_exchanges exchanges []) + length x
-spell_exchanges-length exchanges x = ap length (sym (spell_exchanges-append exchanges [] x)) ∙ length-append (spell_exchanges exchanges []) x
+pub exchanges_text-length : (exchanges : List Exchange) (x : List ℕ) → length (exchanges_text exchanges x) ≡ length (exchanges_text exchanges []) + length x
+exchanges_text-length exchanges x = ap length (sym (exchanges_text-append exchanges [] x)) ∙ length-append (exchanges_text exchanges []) x
 
-pub spell_exchanges-snoc : (exchanges : List Exchange) (i : Exchange) (x : List ℕ) → spell_exchanges (exchanges ++ (i ∷ [])) x ≡ spell_exchanges exchanges (spell_exchange i x)
-spell_exchanges-snoc [] i x = refl
-spell_exchanges-snoc (j ∷ exchanges) i x = ap (spell_exchange j) (spell_exchanges-snoc exchanges i x)
+pub exchanges_text-snoc : (exchanges : List Exchange) (i : Exchange) (x : List ℕ) → exchanges_text (exchanges ++ (i ∷ [])) x ≡ exchanges_text exchanges (exchange_text i x)
+exchanges_text-snoc [] i x = refl
+exchanges_text-snoc (j ∷ exchanges) i x = ap (exchange_text j) (exchanges_text-snoc exchanges i x)
 
 pub table-snoc : (table : States) (exchanges : List Exchange) (i : Exchange) → table_after_all table (exchanges ++ (i ∷ [])) ≡ table_after (table_after_all table exchanges) i
 table-snoc table [] i = refl
@@ -94,7 +94,7 @@ rules-length (i ∷ exchanges) = ap suc (rules-length exchanges)
 
 -- each exchange has some bytes
 pub exchanges-few : (s : Settings) (table : States) (exchanges : List Exchange) (x : List ℕ) → AreExchanges s table exchanges
-    → length exchanges ≤ length (spell_exchanges exchanges x)
+    → length exchanges ≤ length (exchanges_text exchanges x)
 exchanges-few s table [] x are = omega arith
 exchanges-few s table (i ∷ exchanges) x are =
     let rest = exchanges-few s (table_after table i) exchanges x are.1 in

@@ -13,7 +13,7 @@ use Rattle.orb_engine.specs.declared.settings.Settings.{Settings}
 use Rattle.exchanges.specs.Heads.{Heads}
 use Rattle.orb_engine.specs.Judged.{judged_by, response_of}
 use Rattle.orb_engine.specs.Recording as cut
-use Rattle.orb_engine.specs.Recording.{Exchange, Tail, IsExchange, IsTail, IsOpenBody, IsBadBody, spell_heads, spell_exchange, spell_tail, is_open}
+use Rattle.orb_engine.specs.Recording.{Exchange, Tail, IsExchange, IsTail, IsOpenBody, IsBadBody, heads_text, exchange_text, tail_text, is_open}
 use Rattle.orb_engine.specs.Outputs.{written_so_far, written_whole, written_tail}
 use Rattle.exchanges.proofs.BodyLaws.{one_goes_on, longer_prefix, within_stuck, same_whole}
 use Rattle.orb_engine.proofs.OutputLaws.{written_so_far-grows, written_so_far-whole}
@@ -38,13 +38,13 @@ not_item_by s table i r (cut.BadBody k n c d) others x y end a b =
 not_item_by s table i r _ others x y end a b = absurd (cc)
 
 start_of_item : (s : Settings) (table : States) (i : Exchange) (r : List ℕ) → IsExchange s table i
-    → IsStart table (spell_exchange i r) (Asked i.heads.request (i.heads.response.bytes ++ (i.sent ++ r))) (Answered i.heads.response (i.sent ++ r))
+    → IsStart table (exchange_text i r) (Asked i.heads.request (i.heads.response.bytes ++ (i.sent ++ r))) (Answered i.heads.response (i.sent ++ r))
 start_of_item s table i r x = start_of_heads table i.heads (i.sent ++ r) x.heads
 
 pub item_not_tail : (s : Settings) (table : States) (i : Exchange) (r : List ℕ) (u : Tail) (others : List ℕ)
-    → IsExchange s table i → IsTail table u → (is_open u ≡ true → others ≡ []) → spell_exchange i r ≡ spell_tail u others → ⊥
+    → IsExchange s table i → IsTail table u → (is_open u ≡ true → others ≡ []) → exchange_text i r ≡ tail_text u others → ⊥
 item_not_tail s table i r u others x y end e =
-    let start = one_start table (spell_exchange i r) _ (ask_of u others) _ (answer_of u others)
+    let start = one_start table (exchange_text i r) _ (ask_of u others) _ (answer_of u others)
     (start_of_item s table i r x)
     (subst (λ l. IsStart table l (ask_of u others) (answer_of u others)) (sym e) (start_of_tail table u others y end)) in
     not_item_by s table i r u others x y end start.0 start.1
@@ -75,29 +75,29 @@ same_items_by s table i r j q x y heads e =
     )
 
 pub same_items : (s : Settings) (table : States) (i : Exchange) (r : List ℕ) (j : Exchange) (q : List ℕ)
-    → IsExchange s table i → IsExchange s table j → spell_exchange i r ≡ spell_exchange j q → (i ≡ j) × (r ≡ q)
+    → IsExchange s table i → IsExchange s table j → exchange_text i r ≡ exchange_text j q → (i ≡ j) × (r ≡ q)
 same_items s table i r j q x y e =
     let a = Asked i.heads.request (i.heads.response.bytes ++ (i.sent ++ r)) in
     let b = Asked j.heads.request (j.heads.response.bytes ++ (j.sent ++ q)) in
     let c = Answered i.heads.response (i.sent ++ r) in
     let d = Answered j.heads.response (j.sent ++ q) in
-    let start = one_start table (spell_exchange i r) a b c d (start_of_item s table i r x)
+    let start = one_start table (exchange_text i r) a b c d (start_of_item s table i r x)
     (subst (λ l. IsStart table l b d) (sym e) (start_of_item s table j q y)) in
     let p = same_heads i.heads j.heads _ _ (i.sent ++ r) (j.sent ++ q) start.0 start.1 in
     same_items_by s table i r j q x y p.0 p.1
 
 -- ---- an open tail, and what stands there in longer bytes
 
-pub spell_tail-append : (t : Tail) (more x : List ℕ) → spell_tail t more ++ x ≡ spell_tail t (more ++ x)
-spell_tail-append (cut.InRequestHead head) more x = append_assoc head more x
-spell_tail-append (cut.InResponseHead r head) more x = simp append_assoc
-spell_tail-append (cut.InBody h m g) more x = simp append_assoc
-spell_tail-append (cut.LongRequest head) more x = append_assoc head more x
-spell_tail-append (cut.BadRequest head kind) more x = append_assoc head more x
-spell_tail-append (cut.FullTable r) more x = append_assoc r.bytes more x
-spell_tail-append (cut.LongResponse r head) more x = simp append_assoc
-spell_tail-append (cut.BadResponse r head kind) more x = simp append_assoc
-spell_tail-append (cut.BadBody h m g b) more x = simp append_assoc
+pub tail_text-append : (t : Tail) (more x : List ℕ) → tail_text t more ++ x ≡ tail_text t (more ++ x)
+tail_text-append (cut.InRequestHead head) more x = append_assoc head more x
+tail_text-append (cut.InResponseHead r head) more x = simp append_assoc
+tail_text-append (cut.InBody h m g) more x = simp append_assoc
+tail_text-append (cut.LongRequest head) more x = append_assoc head more x
+tail_text-append (cut.BadRequest head kind) more x = append_assoc head more x
+tail_text-append (cut.FullTable r) more x = append_assoc r.bytes more x
+tail_text-append (cut.LongResponse r head) more x = simp append_assoc
+tail_text-append (cut.BadResponse r head kind) more x = simp append_assoc
+tail_text-append (cut.BadBody h m g b) more x = simp append_assoc
 
 -- what goes on from a body that may go on, where its heads are the same
 grows_by_item : (s : Settings) (table : States) (h : Heads) (m g x : List ℕ) (i : Exchange) (r : List ℕ) (number : ℕ)
@@ -148,20 +148,20 @@ grows_by_tail s table h m g x _ others number sending y end a b = absurd (cc)
 
 pub tail_grows : (s : Settings) (table : States) (t : Tail) (more x : List ℕ) (u : Tail) (others : List ℕ) (number count : ℕ)
     → IsTail table t → (is_open t ≡ true → more ≡ []) → IsTail table u → (is_open u ≡ true → others ≡ [])
-    → spell_tail t more ++ x ≡ spell_tail u others
+    → tail_text t more ++ x ≡ tail_text u others
     → IsPrefix (written_tail s table number false t) (written_tail s table count false u)
 tail_grows s table (cut.InBody h m g) more x u others number count sending last y end e =
     let a = Asked h.request (h.response.bytes ++ (m ++ (more ++ x))) in
     let c = Answered h.response (m ++ (more ++ x)) in
-    let is : spell_heads h (m ++ (more ++ x)) ≡ spell_tail u others = sym (spell_tail-append (cut.InBody h m g) more x) ∙ e in
-    let start = one_start table (spell_heads h (m ++ (more ++ x))) a (ask_of u others) c (answer_of u others)
+    let is : heads_text h (m ++ (more ++ x)) ≡ tail_text u others = sym (tail_text-append (cut.InBody h m g) more x) ∙ e in
+    let start = one_start table (heads_text h (m ++ (more ++ x))) a (ask_of u others) c (answer_of u others)
     (start_of_heads table h (m ++ (more ++ x)) sending.heads)
     (subst (λ l. IsStart table l (ask_of u others) (answer_of u others)) (sym is) (start_of_tail table u others y end)) in
     grows_by_tail s table h m g (more ++ x) u others count sending y end start.0 start.1
 tail_grows s table (cut.BadBody h m g d) more x u others number count bad last y end e =
     let shut : is_open (cut.BadBody h m g d) ≡ true → more ++ x ≡ [] = λ o. absurd (false≢true o) in
     let alike = same_tails s table (cut.BadBody h m g d) (more ++ x) u others bad y shut end
-    (sym (spell_tail-append (cut.BadBody h m g d) more x) ∙ e) in
+    (sym (tail_text-append (cut.BadBody h m g d) more x) ∙ e) in
     subst (λ l. IsPrefix (written_so_far s.job (response_of s table h) g) l) (alike.written table count false)
     (IsPrefix-all (written_so_far s.job (response_of s table h) g))
 tail_grows s table (cut.InRequestHead head) more x u others number count t last y end e = IsPrefix-none _
@@ -173,15 +173,15 @@ tail_grows s table (cut.LongResponse r head) more x u others number count t last
 tail_grows s table (cut.BadResponse r head kind) more x u others number count t last y end e = IsPrefix-none _
 
 pub item_grows : (s : Settings) (table : States) (t : Tail) (more x : List ℕ) (i : Exchange) (r : List ℕ) (number count : ℕ)
-    → IsTail table t → (is_open t ≡ true → more ≡ []) → IsExchange s table i → spell_tail t more ++ x ≡ spell_exchange i r
+    → IsTail table t → (is_open t ≡ true → more ≡ []) → IsExchange s table i → tail_text t more ++ x ≡ exchange_text i r
     → IsPrefix (written_tail s table number false t) (written_whole s.job count (response_of s table i.heads) i.body)
 item_grows s table (cut.InBody h m g) more x i r number count sending last y e =
     let a = Asked h.request (h.response.bytes ++ (m ++ (more ++ x))) in
     let c = Answered h.response (m ++ (more ++ x)) in
     let b = Asked i.heads.request (i.heads.response.bytes ++ (i.sent ++ r)) in
     let d = Answered i.heads.response (i.sent ++ r) in
-    let is : spell_heads h (m ++ (more ++ x)) ≡ spell_exchange i r = sym (spell_tail-append (cut.InBody h m g) more x) ∙ e in
-    let start = one_start table (spell_heads h (m ++ (more ++ x))) a b c d
+    let is : heads_text h (m ++ (more ++ x)) ≡ exchange_text i r = sym (tail_text-append (cut.InBody h m g) more x) ∙ e in
+    let start = one_start table (heads_text h (m ++ (more ++ x))) a b c d
     (start_of_heads table h (m ++ (more ++ x)) sending.heads)
     (subst (λ l. IsStart table l b d) (sym is) (start_of_item s table i r y)) in
     let p = same_heads h i.heads _ _ (m ++ (more ++ x)) (i.sent ++ r) start.0 start.1 in
@@ -189,7 +189,7 @@ item_grows s table (cut.InBody h m g) more x i r number count sending last y e =
 item_grows s table (cut.BadBody h m g d) more x i r number count bad last y e =
     let shut : is_open (cut.BadBody h m g d) ≡ true → more ++ x ≡ [] = λ o. absurd (false≢true o) in
     absurd (item_not_tail s table i r (cut.BadBody h m g d) (more ++ x) y bad shut
-    (sym e ∙ spell_tail-append (cut.BadBody h m g d) more x))
+    (sym e ∙ tail_text-append (cut.BadBody h m g d) more x))
 item_grows s table (cut.InRequestHead head) more x i r number count t last y e = IsPrefix-none _
 item_grows s table (cut.InResponseHead q head) more x i r number count t last y e = IsPrefix-none _
 item_grows s table (cut.LongRequest head) more x i r number count t last y e = IsPrefix-none _

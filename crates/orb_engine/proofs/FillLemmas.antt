@@ -18,12 +18,12 @@ use Rattle.http_exchange.specs.HeadTexts.{head_limit, IsOpenHead}
 use Rattle.exchanges.specs.Heads.{Heads}
 use Rattle.orb_engine.specs.Judged.{response_of}
 use Rattle.orb_engine.specs.Recording as cut
-use Rattle.orb_engine.specs.Recording.{Exchange, IsRecording, spell_heads, spell_exchanges}
+use Rattle.orb_engine.specs.Recording.{Exchange, IsRecording, heads_text, exchanges_text}
 use Rattle.orb_engine.specs.Outputs.{output_of, written_exchanges, written_so_far, written_whole}
 use Rattle.orb_engine.specs.Counts.{rules_of_exchanges}
 use Rattle.orb_engine.specs.Reads.{Coming, coming_response, open_cut, table_of, counts_of, IsTold, Stands, Reads, Fills, FillsAt, Settles}
 use Rattle.orb_engine.specs.Closing.{Closes, coming_rule, closed_written}
-use Rattle.orb_engine.proofs.CutLemmas.{spell_exchanges-length, spell_exchanges-snoc, table-snoc, exchanges-snoc, written-snoc, rules-snoc, count-sum, rules-length, exchanges-few}
+use Rattle.orb_engine.proofs.CutLemmas.{exchanges_text-length, exchanges_text-snoc, table-snoc, exchanges-snoc, written-snoc, rules-snoc, count-sum, rules-length, exchanges-few}
 
 pub at-filled : (t : State) (incoming : Incoming) (e : Engine) (s : Settings) (m given : List ℕ) → t ≡ state.Body incoming
     → FillsAt t e s m given → Fills incoming e s m given
@@ -56,18 +56,18 @@ few-exchanges incoming e s m given f fits =
     let c = f.coming in
     let few = exchanges-few s map.empty c.exchanges [] f.whole in
     let some = head_length-bounds c.heads.request.bytes (length c.heads.request.bytes) f.good.request.head.text.ends in
-    let size : length m ≡ length (spell_exchanges c.exchanges []) + length (spell_heads c.heads c.sent) =
-    ap length f.spells ∙ spell_exchanges-length c.exchanges (spell_heads c.heads c.sent) in
-    let heads : length (spell_heads c.heads c.sent) ≡ length c.heads.request.bytes + (length c.heads.response.bytes + length c.sent) =
+    let size : length m ≡ length (exchanges_text c.exchanges []) + length (heads_text c.heads c.sent) =
+    ap length f.spells ∙ exchanges_text-length c.exchanges (heads_text c.heads c.sent) in
+    let heads : length (heads_text c.heads c.sent) ≡ length c.heads.request.bytes + (length c.heads.response.bytes + length c.sent) =
     simp length-append in
     let counts : e.progress.counts.allowed + e.progress.counts.blocked ≡ length c.exchanges =
     rw f.common.counts (count-sum (rules_of_exchanges c.exchanges) ∙ rules-length c.exchanges) in
     omega (arith, f.taken)
 
 spelled : (incoming : Incoming) (e : Engine) (s : Settings) (m given : List ℕ) (f : Fills incoming e s m given)
-    → m ≡ spell_exchanges f.coming.exchanges (spell_heads f.coming.heads (f.coming.sent ++ []))
+    → m ≡ exchanges_text f.coming.exchanges (heads_text f.coming.heads (f.coming.sent ++ []))
 spelled incoming e s m given f =
-    f.spells ∙ ap (λ t. spell_exchanges f.coming.exchanges (spell_heads f.coming.heads t)) (sym (append-nil f.coming.sent))
+    f.spells ∙ ap (λ t. exchanges_text f.coming.exchanges (heads_text f.coming.heads t)) (sym (append-nil f.coming.sent))
 
 -- the body may go on
 pub goes-on : (incoming : Incoming) (e : Engine) (s : Settings) (m given : List ℕ) (f : Fills incoming e s m given)
@@ -107,7 +107,7 @@ closed-cut : (incoming : Incoming) (e : Engine) (s : Settings) (m given : List �
 closed-cut incoming e s m given f whole =
     let i = whole_exchange s f.coming in
     record {
-      spells = spelled incoming e s m given f ∙ sym (spell_exchanges-snoc f.coming.exchanges i []);
+      spells = spelled incoming e s m given f ∙ sym (exchanges_text-snoc f.coming.exchanges i []);
       exchanges = exchanges-snoc s map.empty f.coming.exchanges i f.whole (record { heads = f.good; prefix = f.prefix; whole = whole; decided = refl });
       tail = empty-open;
       last = λ _. refl;

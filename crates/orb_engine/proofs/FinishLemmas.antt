@@ -9,7 +9,7 @@ use Rattle.orb_engine.specs.declared.outcome.EngineOutcome.{EngineOutcome}
 use Rattle.orb_engine.specs.declared.outcome.EngineOutcome.TheVariants as outcome
 use Rattle.exchanges.specs.Heads.{Heads, is_to_end}
 use Rattle.orb_engine.specs.Recording as cut
-use Rattle.orb_engine.specs.Recording.{Exchange, IsRecording, spell_heads, spell_exchanges}
+use Rattle.orb_engine.specs.Recording.{Exchange, IsRecording, heads_text, exchanges_text}
 use Rattle.orb_engine.specs.Ends as ends
 use Rattle.orb_engine.specs.Ends.{stop_of}
 use Rattle.orb_engine.specs.Outputs.{output_of}
@@ -29,7 +29,7 @@ done_or (Err stop) = stop
 request-cut : (e : Engine) (s : Settings) (m given head : List ℕ) (h : HasRequest IsOpenHead e s m given) → h.head ≡ head
     → IsRecording s m (open_cut h.exchanges (cut.InRequestHead head))
 request-cut e s m given head h is = record {
-  spells = h.spells ∙ ap (spell_exchanges h.exchanges) (is ∙ sym (append-nil head));
+  spells = h.spells ∙ ap (exchanges_text h.exchanges) (is ∙ sym (append-nil head));
   exchanges = h.whole;
   tail = rw (← is) h.text;
   last = λ _. refl;
@@ -61,7 +61,7 @@ pub response_head-cut : (asked : Asked) (e : Engine) (s : Settings) (m given : L
 unfolding stop_of
 response_head-cut asked e s m given h =
     quiet-stops (outcome.Cut e.progress.offset) e s m given true h.exchanges (cut.InResponseHead h.request h.head) [] (record {
-      spells = h.spells ∙ ap (λ x. spell_exchanges h.exchanges (h.request.bytes ++ x)) (sym (append-nil h.head));
+      spells = h.spells ∙ ap (λ x. exchanges_text h.exchanges (h.request.bytes ++ x)) (sym (append-nil h.head));
       exchanges = h.whole;
       tail = (h.good, h.text);
       last = λ _. refl;
@@ -70,7 +70,7 @@ response_head-cut asked e s m given h =
 body-cut : (incoming : Incoming) (e : Engine) (s : Settings) (m given : List ℕ) (h : HasOpenBody incoming e s m given)
     → IsRecording s m (open_cut h.coming.exchanges (cut.InBody h.coming.heads h.coming.sent h.coming.body))
 body-cut incoming e s m given h = record {
-  spells = h.spells ∙ ap (λ x. spell_exchanges h.coming.exchanges (spell_heads h.coming.heads x)) (sym (append-nil h.coming.sent));
+  spells = h.spells ∙ ap (λ x. exchanges_text h.coming.exchanges (heads_text h.coming.heads x)) (sym (append-nil h.coming.sent));
   exchanges = h.whole;
   tail = h.sending;
   last = λ _. refl;

@@ -31,14 +31,14 @@ use Rattle.http_exchange.specs.HeadTexts.{IsHeadText, IsOpenHead, IsLongHead}
 use Rattle.exchanges.specs.Heads.{RequestText, id_of, state_before}
 use Rattle.media_state.specs.Table.{admits, IsRefusedId}
 use Rattle.orb_engine.specs.Recording as cut
-use Rattle.orb_engine.specs.Recording.{Exchange, Tail, IsRecording, IsTail, spell_exchanges, spell_tail}
+use Rattle.orb_engine.specs.Recording.{Exchange, Tail, IsRecording, IsTail, exchanges_text, tail_text}
 use Rattle.orb_engine.specs.Ends as ends
 use Rattle.orb_engine.specs.Ends.{End, stop_of}
 use Rattle.orb_engine.specs.Outputs.{output_of, written_exchanges, written_tail}
 use Rattle.orb_engine.specs.Counts.{rules_of, rules_of_exchanges, rules_of_tail}
 use Rattle.orb_engine.specs.Writing.{gathered_by}
 use Rattle.orb_engine.specs.Reads.{open_cut, table_of, counts_of, IsTold, Common, AtRequestHead, AtResponseHead, Stands, Reads, IsStop, Stops, Breaks, Halts, HasRequest, HasResponse, HasHead, IsInHead, head_offset_of, HasReadHeads}
-use Rattle.orb_engine.proofs.CutLemmas.{spell_exchanges-append, spell_exchanges-length}
+use Rattle.orb_engine.proofs.CutLemmas.{exchanges_text-append, exchanges_text-length}
 use Rattle.orb_engine.proofs.FillLemmas.{empty-open, output-request_head, stands-as}
 
 -- no output comes of these tails
@@ -87,7 +87,7 @@ open-request e s m given r is =
     record {
       exchanges = r.exchanges;
       head = a.head;
-      spells = r.cut.spells ∙ ap (λ t. spell_exchanges r.exchanges (spell_tail t [])) a.is ∙ ap (spell_exchanges r.exchanges) (append-nil a.head);
+      spells = r.cut.spells ∙ ap (λ t. exchanges_text r.exchanges (tail_text t [])) a.is ∙ ap (exchanges_text r.exchanges) (append-nil a.head);
       whole = r.cut.exchanges;
       text = subst (λ (t : Tail). IsTail (table_of r.exchanges) t) a.is r.cut.tail;
       buffer = a.text;
@@ -104,7 +104,7 @@ reads-request e s m given h is = record {
   exchanges = h.exchanges;
   tail = cut.InRequestHead h.head;
   cut = record {
-    spells = h.spells ∙ ap (spell_exchanges h.exchanges) (sym (append-nil h.head));
+    spells = h.spells ∙ ap (exchanges_text h.exchanges) (sym (append-nil h.head));
     exchanges = h.whole;
     tail = h.text;
     last = λ _. refl;
@@ -133,7 +133,7 @@ open-response asked e s m given r is =
       exchanges = r.exchanges;
       request = a.request;
       head = a.head;
-      spells = r.cut.spells ∙ ap (λ t. spell_exchanges r.exchanges (spell_tail t [])) a.is ∙ ap (λ x. spell_exchanges r.exchanges (a.request.bytes ++ x)) (append-nil a.head);
+      spells = r.cut.spells ∙ ap (λ t. exchanges_text r.exchanges (tail_text t [])) a.is ∙ ap (λ x. exchanges_text r.exchanges (a.request.bytes ++ x)) (append-nil a.head);
       whole = r.cut.exchanges;
       good = t.0;
       text = t.1;
@@ -155,7 +155,7 @@ reads-response asked e s m given h is = record {
   exchanges = h.exchanges;
   tail = cut.InResponseHead h.request h.head;
   cut = record {
-    spells = h.spells ∙ ap (λ x. spell_exchanges h.exchanges (h.request.bytes ++ x)) (sym (append-nil h.head));
+    spells = h.spells ∙ ap (λ x. exchanges_text h.exchanges (h.request.bytes ++ x)) (sym (append-nil h.head));
     exchanges = h.whole;
     tail = (h.good, h.text);
     last = λ _. refl;
@@ -214,7 +214,7 @@ pub request-longer : (IsText : List ℕ → Type 0) (e e' : Engine) (s : Setting
 request-longer IsText e e' s m given prefix h same head text taken = record {
   exchanges = h.exchanges;
   head = h.head ++ prefix;
-  spells = ap (λ x. x ++ prefix) h.spells ∙ spell_exchanges-append h.exchanges h.head prefix;
+  spells = ap (λ x. x ++ prefix) h.spells ∙ exchanges_text-append h.exchanges h.head prefix;
   whole = h.whole;
   text = subst IsText (head ∙ ap (λ x. x ++ prefix) h.buffer) text;
   buffer = head ∙ ap (λ x. x ++ prefix) h.buffer;
@@ -232,8 +232,8 @@ unfolding stop_of
 request-long e e' s m given prefix rest h same head long =
     quiet-stops (outcome.HeadLimit e.progress.offset) e' s (m ++ (prefix ++ rest)) given false h.exchanges (cut.LongRequest (h.head ++ prefix)) rest
     (record {
-      spells = ap (λ x. x ++ (prefix ++ rest)) h.spells ∙ spell_exchanges-append h.exchanges h.head (prefix ++ rest)
-          ∙ ap (spell_exchanges h.exchanges) (sym (append_assoc h.head prefix rest));
+      spells = ap (λ x. x ++ (prefix ++ rest)) h.spells ∙ exchanges_text-append h.exchanges h.head (prefix ++ rest)
+          ∙ ap (exchanges_text h.exchanges) (sym (append_assoc h.head prefix rest));
       exchanges = h.whole;
       tail = subst (λ (x : List ℕ). IsLongHead x) (head ∙ ap (λ x. x ++ prefix) h.buffer) long;
       last = λ never. absurd (cc never);
@@ -247,7 +247,7 @@ unfolding stop_of
 request-bad e e' s m given kind h same reads =
     quiet-stops (outcome.Bad kind e.progress.offset) e' s m given false h.exchanges (cut.BadRequest h.head kind) []
     (record {
-      spells = h.spells ∙ ap (spell_exchanges h.exchanges) (sym (append-nil h.head));
+      spells = h.spells ∙ ap (exchanges_text h.exchanges) (sym (append-nil h.head));
       exchanges = h.whole;
       tail = (h.text, subst (λ (x : List ℕ). ReadsRequestHead x (Err kind)) h.buffer reads);
       last = λ never. absurd (cc never);
@@ -264,7 +264,7 @@ request-full e e' s m given asks h writer counts told reads refused =
     let r : RequestText = record { bytes = h.head; asks = asks } in
     quiet-stops (outcome.MediaFull e.progress.offset) e' s m given false h.exchanges (cut.FullTable r) []
     (record {
-      spells = h.spells ∙ ap (spell_exchanges h.exchanges) (sym (append-nil h.head));
+      spells = h.spells ∙ ap (exchanges_text h.exchanges) (sym (append-nil h.head));
       exchanges = h.whole;
       tail = (record { text = h.text; reads = subst (λ (x : List ℕ). ReadsRequestHead x (Ok asks)) h.buffer reads }, rw (← h.media) refused);
       last = λ never. absurd (cc never);
@@ -281,7 +281,7 @@ request-good e e' asked s m given h writer counts told offset taken empty reads 
   exchanges = h.exchanges;
   request = record { bytes = h.head; asks = asked.asks };
   head = [];
-  spells = h.spells ∙ ap (spell_exchanges h.exchanges) (sym (append-nil h.head));
+  spells = h.spells ∙ ap (exchanges_text h.exchanges) (sym (append-nil h.head));
   whole = h.whole;
   good = record {
     head = record { text = h.text; reads = subst (λ (x : List ℕ). ReadsRequestHead x (Ok asked.asks)) h.buffer reads };
@@ -293,7 +293,7 @@ request-good e e' asked s m given h writer counts told offset taken empty reads 
   writer = rw writer h.writer;
   asks = refl;
   state = state ∙ ap (λ t. state_before t asked.asks) h.media;
-  offset = asked_offset ∙ h.taken ∙ ap length h.spells ∙ spell_exchanges-length h.exchanges h.head;
+  offset = asked_offset ∙ h.taken ∙ ap length h.spells ∙ exchanges_text-length h.exchanges h.head;
   gave = ap (λ w. given ++ gathered_by w) writer ∙ h.gave;
   taken = taken ∙ h.taken;
   common = record {
@@ -375,8 +375,8 @@ response-longer IsText asked e e' s m given prefix h same head text taken = reco
   exchanges = h.exchanges;
   request = h.request;
   head = h.head ++ prefix;
-  spells = ap (λ x. x ++ prefix) h.spells ∙ spell_exchanges-append h.exchanges (h.request.bytes ++ h.head) prefix
-      ∙ ap (spell_exchanges h.exchanges) (append_assoc h.request.bytes h.head prefix);
+  spells = ap (λ x. x ++ prefix) h.spells ∙ exchanges_text-append h.exchanges (h.request.bytes ++ h.head) prefix
+      ∙ ap (exchanges_text h.exchanges) (append_assoc h.request.bytes h.head prefix);
   whole = h.whole;
   good = h.good;
   text = subst IsText (head ∙ ap (λ x. x ++ prefix) h.buffer) text;
@@ -398,8 +398,8 @@ unfolding stop_of
 response-long asked e e' s m given prefix rest h same head long =
     quiet-stops (outcome.HeadLimit asked.offset) e' s (m ++ (prefix ++ rest)) given false h.exchanges (cut.LongResponse h.request (h.head ++ prefix)) rest
     (record {
-      spells = ap (λ x. x ++ (prefix ++ rest)) h.spells ∙ spell_exchanges-append h.exchanges (h.request.bytes ++ h.head) (prefix ++ rest)
-          ∙ ap (spell_exchanges h.exchanges) (append_assoc h.request.bytes h.head (prefix ++ rest)
+      spells = ap (λ x. x ++ (prefix ++ rest)) h.spells ∙ exchanges_text-append h.exchanges (h.request.bytes ++ h.head) (prefix ++ rest)
+          ∙ ap (exchanges_text h.exchanges) (append_assoc h.request.bytes h.head (prefix ++ rest)
           ∙ ap (λ t. h.request.bytes ++ t) (sym (append_assoc h.head prefix rest)));
       exchanges = h.whole;
       tail = (h.good, subst (λ (x : List ℕ). IsLongHead x) (head ∙ ap (λ x. x ++ prefix) h.buffer) long);
@@ -450,7 +450,7 @@ unfolding stop_of
 response-bad asked e e' s m given kind h same reads =
     quiet-stops (outcome.Bad kind asked.offset) e' s m given false h.exchanges (cut.BadResponse h.request h.head kind) []
     (record {
-      spells = h.spells ∙ ap (λ x. spell_exchanges h.exchanges (h.request.bytes ++ x)) (sym (append-nil h.head));
+      spells = h.spells ∙ ap (λ x. exchanges_text h.exchanges (h.request.bytes ++ x)) (sym (append-nil h.head));
       exchanges = h.whole;
       tail = (h.good, h.text, rw (← h.buffer, ← h.asks) reads);
       last = λ never. absurd (cc never);

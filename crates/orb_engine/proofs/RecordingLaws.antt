@@ -5,14 +5,14 @@ use Rattle.orb_io.proofs.ToldLemmas.{IsPrefix-append, IsPrefix-after, IsPrefix-t
 use Rattle.media_state.specs.Table.{States}
 use Rattle.orb_engine.specs.declared.settings.Settings.{Settings}
 use Rattle.orb_engine.specs.Judged.{response_of}
-use Rattle.orb_engine.specs.Recording.{Exchange, Tail, AreExchanges, IsTail, spell_exchange, spell_exchanges, spell_tail, table_after, table_after_all, is_open}
+use Rattle.orb_engine.specs.Recording.{Exchange, Tail, AreExchanges, IsTail, exchange_text, exchanges_text, tail_text, table_after, table_after_all, is_open}
 use Rattle.orb_engine.specs.Outputs.{written_whole, written_exchanges, written_tail}
 use Rattle.orb_engine.proofs.TailLaws.{IsAlike, same_tails}
 use Rattle.orb_engine.proofs.ExchangeLaws.{item_not_tail, same_items, tail_grows, item_grows}
 
 -- the bytes are these whole exchanges and this tail, after exchanges that leave these media states
 pub record IsCut (s : Settings) (table : States) (bytes : List ℕ) (exchanges : List Exchange) (tail : Tail) (more : List ℕ) : Type 0 where
-  pub spells : bytes ≡ spell_exchanges exchanges (spell_tail tail more)
+  pub spells : bytes ≡ exchanges_text exchanges (tail_text tail more)
   pub whole : AreExchanges s table exchanges
   pub stands : IsTail (table_after_all table exchanges) tail
   pub last : is_open tail ≡ true → more ≡ []
@@ -24,12 +24,12 @@ pub one_cut : (s : Settings) (table : States) (l : List ℕ) (exchanges : List E
 one_cut s table l [] t more [] u others x y =
     (refl, same_tails s table t more u others x.stands y.stands x.last y.last (sym x.spells ∙ y.spells))
 one_cut s table l [] t more (j ∷ jtems) u others x y =
-    absurd (item_not_tail s table j (spell_exchanges jtems (spell_tail u others)) t more y.whole.0 x.stands x.last (sym y.spells ∙ x.spells))
+    absurd (item_not_tail s table j (exchanges_text jtems (tail_text u others)) t more y.whole.0 x.stands x.last (sym y.spells ∙ x.spells))
 one_cut s table l (i ∷ exchanges) t more [] u others x y =
-    absurd (item_not_tail s table i (spell_exchanges exchanges (spell_tail t more)) u others x.whole.0 y.stands y.last (sym x.spells ∙ y.spells))
+    absurd (item_not_tail s table i (exchanges_text exchanges (tail_text t more)) u others x.whole.0 y.stands y.last (sym x.spells ∙ y.spells))
 one_cut s table l (i ∷ exchanges) t more (j ∷ jtems) u others x y =
-    let r = spell_exchanges exchanges (spell_tail t more) in
-    let q = spell_exchanges jtems (spell_tail u others) in
+    let r = exchanges_text exchanges (tail_text t more) in
+    let q = exchanges_text jtems (tail_text u others) in
     let same = same_items s table i r j q x.whole.0 y.whole.0 (sym x.spells ∙ y.spells) in
     let first : IsCut s (table_after table i) r exchanges t more = record {
       spells = refl;
@@ -51,8 +51,8 @@ one_cut s table l (i ∷ exchanges) t more (j ∷ jtems) u others x y =
 prefix-more : (a b c : List ℕ) → IsPrefix a b → IsPrefix a (b ++ c)
 prefix-more a b c p = IsPrefix-trans a b (b ++ c) p (IsPrefix-append b c)
 
-pub spell_exchange-append : (i : Exchange) (r x : List ℕ) → spell_exchange i r ++ x ≡ spell_exchange i (r ++ x)
-spell_exchange-append i r x = simp append_assoc
+pub exchange_text-append : (i : Exchange) (r x : List ℕ) → exchange_text i r ++ x ≡ exchange_text i (r ++ x)
+exchange_text-append i r x = simp append_assoc
 
 -- the later cutting goes on from the earlier
 pub record Grows (s : Settings) (table : States) (exchanges : List Exchange) (t : Tail) (jtems : List Exchange) (u : Tail) : Type 0 where
@@ -89,19 +89,19 @@ grow_cut s table l x [] t more (j ∷ jtems) u others a b = record {
   others = j ∷ jtems;
   goes_on = refl;
   grows = λ before number count.
-      let w = item_grows s table t more x j (spell_exchanges jtems (spell_tail u others)) number (before + 1) a.stands a.last b.whole.0
+      let w = item_grows s table t more x j (exchanges_text jtems (tail_text u others)) number (before + 1) a.stands a.last b.whole.0
       (ap (λ k. k ++ x) (sym a.spells) ∙ b.spells) in
       prefix-more _ _ _ (prefix-more _ _ _ w);
 }
 grow_cut s table l x (i ∷ exchanges) t more [] u others a b =
-    let r = spell_exchanges exchanges (spell_tail t more) in
+    let r = exchanges_text exchanges (tail_text t more) in
     absurd (item_not_tail s table i (r ++ x) u others a.whole.0 b.stands b.last
-    (sym (spell_exchange-append i r x) ∙ ap (λ k. k ++ x) (sym a.spells) ∙ b.spells))
+    (sym (exchange_text-append i r x) ∙ ap (λ k. k ++ x) (sym a.spells) ∙ b.spells))
 grow_cut s table l x (i ∷ exchanges) t more (j ∷ jtems) u others a b =
-    let r = spell_exchanges exchanges (spell_tail t more) in
-    let q = spell_exchanges jtems (spell_tail u others) in
+    let r = exchanges_text exchanges (tail_text t more) in
+    let q = exchanges_text jtems (tail_text u others) in
     let same = same_items s table i (r ++ x) j q a.whole.0 b.whole.0
-    (sym (spell_exchange-append i r x) ∙ ap (λ k. k ++ x) (sym a.spells) ∙ b.spells) in
+    (sym (exchange_text-append i r x) ∙ ap (λ k. k ++ x) (sym a.spells) ∙ b.spells) in
     let first : IsCut s (table_after table i) r exchanges t more = record {
       spells = refl;
       whole = a.whole.1;

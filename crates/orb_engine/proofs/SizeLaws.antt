@@ -7,7 +7,7 @@ use Rattle.orb_engine.specs.declared.settings.Settings.{Settings}
 use Rattle.exchanges.specs.Heads.{Heads, is_to_end}
 use Rattle.orb_engine.specs.Judged.{response_of}
 use Rattle.orb_engine.specs.Recording as cut
-use Rattle.orb_engine.specs.Recording.{Exchange, Tail, Recording, IsRecording, AreExchanges, IsTail, table_after, table_after_all, spell_exchanges, spell_tail}
+use Rattle.orb_engine.specs.Recording.{Exchange, Tail, Recording, IsRecording, AreExchanges, IsTail, table_after, table_after_all, exchanges_text, tail_text}
 use Rattle.orb_engine.specs.Outputs.{written_so_far, written_whole, written_exchanges, written_tail, output_of}
 use Rattle.orb_engine.proofs.StepLemmas.{prefix-short}
 use Rattle.orb_engine.proofs.WorkLemmas.{so_far-most, whole-most}
@@ -16,10 +16,10 @@ use Rattle.orb_engine.proofs.WorkLemmas.{so_far-most, whole-most}
 exchanges-short : (s : Settings) (table : States) (before : ℕ) (exchanges : List Exchange) (rest : List ℕ)
     → s.job ≡ Filter → AreExchanges s table exchanges
     → length (written_exchanges s table before exchanges) + 2 * length rest
-    ≤ 2 * length (spell_exchanges exchanges rest) + 128 * length exchanges
+    ≤ 2 * length (exchanges_text exchanges rest) + 128 * length exchanges
 exchanges-short s table before [] rest filters are = omega arith
 exchanges-short s table before (i ∷ exchanges) rest filters (first, others) =
-    let after = spell_exchanges exchanges rest in
+    let after = exchanges_text exchanges rest in
     let x = response_of s table i.heads in
     let body = prefix-short i.heads.response.frame i.sent i.body first.prefix in
     let spelled = length-append i.heads.request.bytes (i.heads.response.bytes ++ (i.sent ++ after)) in
@@ -37,7 +37,7 @@ body-short s table number h body true filters = whole-most s.job number (respons
 body-short s table number h body false filters = so_far-most s.job (response_of s table h) body
 
 tail-short : (s : Settings) (table : States) (before : ℕ) (ended : Bool) (t : Tail) (more : List ℕ) → s.job ≡ Filter → IsTail table t
-    → length (written_tail s table before ended t) ≤ 2 * length (spell_tail t more) + 128
+    → length (written_tail s table before ended t) ≤ 2 * length (tail_text t more) + 128
 tail-short s table before ended (cut.InBody h sent body) more filters is =
     let short = prefix-short h.response.frame sent body is.prefix in
     let spelled = length-append h.request.bytes (h.response.bytes ++ (sent ++ more)) in
@@ -59,6 +59,6 @@ pub output-short : (s : Settings) (m : List ℕ) (r : Recording) (ended : Bool) 
 unfolding output_of
 output-short s m r ended filters is =
     let table = table_after_all map.empty r.exchanges in
-    let first = exchanges-short s map.empty 0 r.exchanges (spell_tail r.tail r.more) filters is.exchanges in
+    let first = exchanges-short s map.empty 0 r.exchanges (tail_text r.tail r.more) filters is.exchanges in
     let last = tail-short s table (length r.exchanges) ended r.tail r.more filters is.tail in
     omega (arith, first, last, ap length is.spells, length-append (written_exchanges s map.empty 0 r.exchanges) (written_tail s table (length r.exchanges) ended r.tail))

@@ -1,16 +1,13 @@
 -- What the heads of an exchange at the beginning of some bytes are, which is one thing alone.
-use Rattle.std.proofs.Common.{◌≡◌, ℕ, Bool, true, List, [], ◌∷◌, ◌++◌, Ok, Err, refl, sym, ap, subst, ◌∙◌}
-use Rattle.std.proofs.lemmas.List.{append-nil}
+use Rattle.std.proofs.Common.{◌≡◌, ℕ, true, List, [], ◌∷◌, ◌++◌, Ok, Err, refl, sym, ap, subst, ◌∙◌}
 use Rattle.media_state.specs.Table.{States}
-use Rattle.http_exchange.specs.Reading.{ReadsRequestHead, ReadsResponseHead}
+use Rattle.http_exchange.specs.Reading.{ReadsRequestHead}
 use Rattle.http_exchange.specs.declared.refusals.BadKind.{BadKind}
 use Rattle.http_exchange.specs.declared.request.RequestHead.{RequestHead}
-use Rattle.http_exchange.specs.HeadTexts.{IsOpenHead}
-use Rattle.exchanges.specs.Heads.{RequestText, ResponseText, Heads, IsRequestIn, IsResponseHead, AreHeads, id_of}
+use Rattle.exchanges.specs.Heads.{RequestText, ResponseText, Heads, IsRequestIn, AreHeads, id_of}
 use Rattle.media_state.specs.Table.{IsRefusedId}
 use Rattle.orb_engine.specs.Recording as cut
-use Rattle.orb_engine.specs.Recording.{Tail, IsTail, spell_heads, spell_tail, is_open}
-use Rattle.http_exchange.proofs.ReadingLemmas.{bad_response_once}
+use Rattle.orb_engine.specs.Recording.{Tail, IsTail, heads_text, tail_text, is_open}
 use Rattle.exchanges.proofs.HeadLaws.{Opens, Longs, Stands, view, view-stands, view-long, opens, ask_once, bad_request_once, ask_or_bad, Answer, NoAnswer, AnswerOpens, AnswerLong, AnswerBad, Answered, IsAnswer, one_answer}
 
 -- a request at the beginning of some bytes
@@ -130,14 +127,14 @@ asked : (table : States) (r : RequestText) (rest : List ℕ) → IsRequestIn tab
 asked table r rest h = (view-stands r.bytes rest h.head.text, h.head.reads, h.room)
 
 pub start_of_heads : (table : States) (h : Heads) (rest : List ℕ) → AreHeads table h
-    → IsStart table (spell_heads h rest) (Asked h.request (h.response.bytes ++ rest)) (Answered h.response rest)
+    → IsStart table (heads_text h rest) (Asked h.request (h.response.bytes ++ rest)) (Answered h.response rest)
 start_of_heads table h rest are = record {
   asks = asked table h.request (h.response.bytes ++ rest) are.request;
   answers = (view-stands h.response.bytes rest are.response.text, are.response);
 }
 
 pub start_of_tail : (table : States) (t : Tail) (more : List ℕ) → IsTail table t
-    → (is_open t ≡ true → more ≡ []) → IsStart table (spell_tail t more) (ask_of t more) (answer_of t more)
+    → (is_open t ≡ true → more ≡ []) → IsStart table (tail_text t more) (ask_of t more) (answer_of t more)
 start_of_tail table (cut.InRequestHead head) more h last = record { asks = opens head more (last refl) h; answers = refl }
 start_of_tail table (cut.InResponseHead r head) more h last = record {
   asks = asked table r (head ++ more) h.0;

@@ -21,11 +21,11 @@ use Rattle.orb_engine.specs.declared.engine.Engine.{Engine}
 use Rattle.exchanges.specs.Heads.{Heads, AreHeads}
 use Rattle.orb_engine.specs.Judged.{response_of}
 use Rattle.orb_engine.specs.Recording as cut
-use Rattle.orb_engine.specs.Recording.{Exchange, Recording, AreExchanges, IsRecording, spell_heads, spell_exchanges}
+use Rattle.orb_engine.specs.Recording.{Exchange, Recording, AreExchanges, IsRecording, heads_text, exchanges_text}
 use Rattle.orb_engine.specs.Outputs.{output_of, written_exchanges, written_so_far}
 use Rattle.orb_engine.specs.declared.outcome.EngineOutcome.{EngineOutcome}
 use Rattle.orb_engine.specs.Reads.{Coming, open_cut, table_of, IsTold, Breaks, HaltCause, Causes}
-use Rattle.orb_engine.proofs.CutLemmas.{spell_exchanges-snoc, exchanges-snoc}
+use Rattle.orb_engine.proofs.CutLemmas.{exchanges_text-snoc, exchanges-snoc}
 use Rattle.orb_engine.proofs.ClosingLemmas.{so_far-in-whole}
 use Rattle.orb_engine.proofs.FillLemmas.{empty-open, output-body, whole_exchange, closed-output}
 
@@ -70,7 +70,7 @@ pub record IsSeen (s : Settings) (m : List ℕ) (exchanges : List Exchange) (wro
   pub are : recording.exchanges ≡ exchanges ++ others
 
 pub seen-body : (s : Settings) (m : List ℕ) (exchanges : List Exchange) (h : Heads) (sent body : List ℕ) (u : Unframer)
-    → m ≡ spell_exchanges exchanges (spell_heads h sent) → AreExchanges s map.empty exchanges → AreHeads (table_of exchanges) h
+    → m ≡ exchanges_text exchanges (heads_text h sent) → AreExchanges s map.empty exchanges → AreHeads (table_of exchanges) h
     → IsBodyPrefix h.response.frame sent body → UnframerHasRead u h.response.frame sent body
     → IsSeen s m exchanges (written_exchanges s map.empty 0 exchanges ++ written_so_far s.job (response_of s (table_of exchanges) h) body)
 seen-body s m exchanges h sent body u spells whole good prefix reads =
@@ -79,8 +79,8 @@ seen-body s m exchanges h sent body u spells whole good prefix reads =
     Seen : Type 0
     Seen = IsSeen s m exchanges (written_exchanges s map.empty 0 exchanges ++ written_so_far s.job (response_of s (table_of exchanges) h) body)
 
-    spelled : m ≡ spell_exchanges exchanges (spell_heads h (sent ++ []))
-    spelled = spells ∙ ap (λ t. spell_exchanges exchanges (spell_heads h t)) (sym (append-nil sent))
+    spelled : m ≡ exchanges_text exchanges (heads_text h (sent ++ []))
+    spelled = spells ∙ ap (λ t. exchanges_text exchanges (heads_text h t)) (sym (append-nil sent))
 
     closed : IsWhole h.response.frame sent → Seen
     closed ended =
@@ -89,7 +89,7 @@ seen-body s m exchanges h sent body u spells whole good prefix reads =
         record {
           recording = open_cut (exchanges ++ (i ∷ [])) (cut.InRequestHead []);
           cut = record {
-            spells = spelled ∙ sym (spell_exchanges-snoc exchanges i []);
+            spells = spelled ∙ sym (exchanges_text-snoc exchanges i []);
             exchanges = exchanges-snoc s map.empty exchanges i whole (record { heads = good; prefix = prefix; whole = ended; decided = refl });
             tail = empty-open;
             last = λ _. refl;

@@ -1,13 +1,13 @@
 -- Two cuttings of the same bytes, by what they cut first.
-use Rattle.std.proofs.Common.{◌≡◌, ℕ, ◌+◌, Bool, true, List, [], ◌∷◌, ◌++◌, length, refl, sym, ap, subst, ◌∙◌, arith}
-use Rattle.std.proofs.lemmas.List.{append-nil, append_cancel_left, length-append}
+use Rattle.std.proofs.Common.{◌≡◌, ℕ, ◌+◌, Bool, true, List, [], ◌∷◌, ◌++◌, length, refl, sym, ap, subst, ◌∙◌}
+use Rattle.std.proofs.lemmas.List.{append-nil, append_cancel_left}
 use Rattle.media_state.specs.Table.{States}
 use Rattle.http_exchange.specs.Frames.{IsBodyPrefix, IsWhole}
 use Rattle.http_exchange.proofs.UnframerLemmas.{one_prefix}
 use Rattle.orb_engine.specs.declared.settings.Settings.{Settings}
 use Rattle.exchanges.specs.Heads.{Heads}
 use Rattle.orb_engine.specs.Recording as cut
-use Rattle.orb_engine.specs.Recording.{Tail, IsTail, IsOpenBody, IsBadBody, spell_tail, is_open}
+use Rattle.orb_engine.specs.Recording.{Tail, IsTail, IsOpenBody, IsBadBody, tail_text, is_open}
 use Rattle.orb_engine.specs.Ends.{Bad, HeadLimit, stop_at}
 use Rattle.orb_engine.specs.Outputs.{written_tail}
 use Rattle.orb_engine.specs.Counts.{rules_of_tail}
@@ -73,7 +73,7 @@ alone m more none = ap (λ l. m ++ l) none ∙ append-nil m
 
 alike_by : (s : Settings) (table : States) (t : Tail) (more : List ℕ) (u : Tail) (others : List ℕ)
     → IsTail table t → IsTail table u → (is_open t ≡ true → more ≡ []) → (is_open u ≡ true → others ≡ [])
-    → spell_tail t more ≡ spell_tail u others
+    → tail_text t more ≡ tail_text u others
     → ask_of t more ≡ ask_of u others → answer_of t more ≡ answer_of u others → IsAlike s t u
 alike_by s table (cut.InRequestHead head) more (cut.InRequestHead text) others x y last end e a b =
     let none : more ≡ [] = last refl in
@@ -147,9 +147,9 @@ alike_by s table (cut.BadBody h m g d) more _ others x y last end e a b = absurd
 
 pub same_tails : (s : Settings) (table : States) (t : Tail) (more : List ℕ) (u : Tail) (others : List ℕ)
     → IsTail table t → IsTail table u → (is_open t ≡ true → more ≡ []) → (is_open u ≡ true → others ≡ [])
-    → spell_tail t more ≡ spell_tail u others → IsAlike s t u
+    → tail_text t more ≡ tail_text u others → IsAlike s t u
 same_tails s table t more u others x y last end e =
-    let start = one_start table (spell_tail t more) (ask_of t more) (ask_of u others) (answer_of t more) (answer_of u others)
+    let start = one_start table (tail_text t more) (ask_of t more) (ask_of u others) (answer_of t more) (answer_of u others)
     (start_of_tail table t more x last)
     (subst (λ l. IsStart table l (ask_of u others) (answer_of u others)) (sym e) (start_of_tail table u others y end)) in
     alike_by s table t more u others x y last end e start.0 start.1

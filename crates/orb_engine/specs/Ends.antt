@@ -4,7 +4,7 @@ use Rattle.http_exchange.specs.declared.refusals.BadKind.{BadKind}
 use Rattle.http_exchange.specs.declared.refusals.BadKind.TheVariants.{BadChunk}
 use Rattle.exchanges.specs.Heads.{Heads, is_to_end}
 use Rattle.orb_engine.specs.Recording as cut
-use Rattle.orb_engine.specs.Recording.{Tail, Recording, spell_exchanges}
+use Rattle.orb_engine.specs.Recording.{Tail, Recording, exchanges_text}
 
 pub data End : Type 0 where
   -- the bytes may go on
@@ -43,4 +43,4 @@ stop_at offset ended (cut.BadBody h sent body b) =
 
 -- the end of a recording, of which no more comes where it has ended
 unfoldable pub stop_of : Recording → (ended : Bool) → End
-stop_of r ended = stop_at (length (spell_exchanges r.exchanges [])) ended r.tail
+stop_of r ended = stop_at (length (exchanges_text r.exchanges [])) ended r.tail

@@ -26,7 +26,7 @@ use Rattle.exchanges.specs.Heads.{RequestText, ResponseText, Heads, AreHeads, Is
 use Rattle.orb_engine.specs.Judged.{judged_by, response_of}
 use Rattle.media_state.specs.Table.{admits}
 use Rattle.orb_engine.specs.Recording as cut
-use Rattle.orb_engine.specs.Recording.{Exchange, Tail, Recording, IsRecording, AreExchanges, is_open, spell_heads, spell_exchanges, table_after_all}
+use Rattle.orb_engine.specs.Recording.{Exchange, Tail, Recording, IsRecording, AreExchanges, is_open, heads_text, exchanges_text, table_after_all}
 use Rattle.orb_engine.specs.Ends as ends
 use Rattle.orb_engine.specs.Ends.{End, stop_of}
 use Rattle.orb_engine.specs.Outputs.{output_of, written_exchanges, written_so_far}
@@ -57,7 +57,7 @@ pub record IsTold (counts : Counts) (s : Settings) (exchanges : List Exchange) (
 -- what an engine knows in each stage
 pub record Common (e : Engine) (s : Settings) (exchanges : List Exchange) (given : List ℕ) : Type 0 where
   pub settings : e.writer.settings ≡ s
-  pub offset : e.progress.offset ≡ length (spell_exchanges exchanges [])
+  pub offset : e.progress.offset ≡ length (exchanges_text exchanges [])
   pub counts : e.progress.counts ≡ counts_of (rules_of_exchanges exchanges)
   pub told : IsTold e.progress.told s exchanges given
 
@@ -79,7 +79,7 @@ pub record AtResponseHead (asked : AskedRequest) (e : Engine) (s : Settings) (ex
   pub writer : IsWriterFor e.writer s
   pub asks : asked.asks ≡ request.asks
   pub state : asked.state ≡ state_before (table_of exchanges) request.asks
-  pub offset : asked.offset ≡ length (spell_exchanges exchanges []) + length request.bytes
+  pub offset : asked.offset ≡ length (exchanges_text exchanges []) + length request.bytes
 
 -- an exchange whose body comes: those before it, its heads, and what has come of its body, as it was sent and its
 -- content
@@ -98,8 +98,8 @@ abbrev pub coming_written : Settings → Coming → List ℕ
 coming_written s c = written_exchanges s map.empty 0 c.exchanges ++ written_so_far s.job (coming_response s c) c.body
 
 -- these bytes are the exchanges before it and what has come of it
-abbrev pub spell_coming : Coming → List ℕ
-spell_coming c = spell_exchanges c.exchanges (spell_heads c.heads c.sent)
+abbrev pub coming_text : Coming → List ℕ
+coming_text c = exchanges_text c.exchanges (heads_text c.heads c.sent)
 
 -- what an engine knows of its body
 pub record Receives (incoming : Incoming) (e : Engine) (s : Settings) (c : Coming) : Type 0 where
@@ -137,7 +137,7 @@ pub record Reads (e : Engine) (s : Settings) (m given : List ℕ) : Type 0 where
 -- it is after the heads of an exchange whose body comes; whether that is whole isn't told yet
 pub record Fills (incoming : Incoming) (e : Engine) (s : Settings) (m given : List ℕ) : Type 0 where
   pub coming : Coming
-  pub spells : m ≡ spell_coming coming
+  pub spells : m ≡ coming_text coming
   pub whole : AreExchanges s map.empty coming.exchanges
   pub good : AreHeads (table_of coming.exchanges) coming.heads
   pub prefix : IsBodyPrefix coming.heads.response.frame coming.sent coming.body
@@ -205,7 +205,7 @@ Causes (Err o) before after = HaltCause o before after
 pub record HasRequest (IsText : List ℕ → Type 0) (e : Engine) (s : Settings) (m given : List ℕ) : Type 0 where
   pub exchanges : List Exchange
   pub head : List ℕ
-  pub spells : m ≡ spell_exchanges exchanges head
+  pub spells : m ≡ exchanges_text exchanges head
   pub whole : AreExchanges s map.empty exchanges
   pub text : IsText head
   pub buffer : e.head ≡ head
@@ -221,7 +221,7 @@ pub record HasResponse (IsText : List ℕ → Type 0) (asked : AskedRequest) (e 
     pub exchanges : List Exchange
     pub request : RequestText
     pub head : List ℕ
-    pub spells : m ≡ spell_exchanges exchanges (request.bytes ++ head)
+    pub spells : m ≡ exchanges_text exchanges (request.bytes ++ head)
     pub whole : AreExchanges s map.empty exchanges
     pub good : IsRequestIn (table_of exchanges) request
     pub text : IsText head
@@ -230,7 +230,7 @@ pub record HasResponse (IsText : List ℕ → Type 0) (asked : AskedRequest) (e 
     pub writer : IsWriterFor e.writer s
     pub asks : asked.asks ≡ request.asks
     pub state : asked.state ≡ state_before (table_of exchanges) request.asks
-    pub offset : asked.offset ≡ length (spell_exchanges exchanges []) + length request.bytes
+    pub offset : asked.offset ≡ length (exchanges_text exchanges []) + length request.bytes
     pub gave : given ++ gathered_by e.writer ≡ written_exchanges s map.empty 0 exchanges
     pub taken : e.progress.taken ≡ length m
     pub common : Common e s exchanges given
@@ -271,7 +271,7 @@ FillsAt (state.Body incoming) e s m given = Fills incoming e s m given
 -- the unframer has taken this further content, which the writer hasn't read yet
 pub record Passes (incoming : Incoming) (e : Engine) (s : Settings) (m piece given : List ℕ) : Type 0 where
   pub coming : Coming
-  pub spells : m ≡ spell_coming coming
+  pub spells : m ≡ coming_text coming
   pub whole : AreExchanges s map.empty coming.exchanges
   pub good : AreHeads (table_of coming.exchanges) coming.heads
   pub prefix : IsBodyPrefix coming.heads.response.frame coming.sent (coming.body ++ piece)

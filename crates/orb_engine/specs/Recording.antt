@@ -47,26 +47,26 @@ pub data Tail : Type 0 where
   BadBody : Heads → (sent body : List ℕ) → (b : ℕ) → Tail
 
 -- the heads as they are sent, before what follows
-abbrev pub spell_heads : Heads → List ℕ → List ℕ
-spell_heads h rest = h.request.bytes ++ (h.response.bytes ++ rest)
+abbrev pub heads_text : Heads → List ℕ → List ℕ
+heads_text h rest = h.request.bytes ++ (h.response.bytes ++ rest)
 
-abbrev pub spell_exchange : Exchange → List ℕ → List ℕ
-spell_exchange i rest = spell_heads i.heads (i.sent ++ rest)
+abbrev pub exchange_text : Exchange → List ℕ → List ℕ
+exchange_text i rest = heads_text i.heads (i.sent ++ rest)
 
-abbrev pub spell_exchanges : List Exchange → List ℕ → List ℕ
-spell_exchanges [] rest = rest
-spell_exchanges (i ∷ exchanges) rest = spell_exchange i (spell_exchanges exchanges rest)
+abbrev pub exchanges_text : List Exchange → List ℕ → List ℕ
+exchanges_text [] rest = rest
+exchanges_text (i ∷ exchanges) rest = exchange_text i (exchanges_text exchanges rest)
 
-abbrev pub spell_tail : Tail → List ℕ → List ℕ
-spell_tail (InRequestHead head) rest = head ++ rest
-spell_tail (InResponseHead r head) rest = r.bytes ++ (head ++ rest)
-spell_tail (InBody h sent body) rest = spell_heads h (sent ++ rest)
-spell_tail (LongRequest head) rest = head ++ rest
-spell_tail (BadRequest head kind) rest = head ++ rest
-spell_tail (FullTable r) rest = r.bytes ++ rest
-spell_tail (LongResponse r head) rest = r.bytes ++ (head ++ rest)
-spell_tail (BadResponse r head kind) rest = r.bytes ++ (head ++ rest)
-spell_tail (BadBody h sent body b) rest = spell_heads h (sent ++ (b ∷ rest))
+abbrev pub tail_text : Tail → List ℕ → List ℕ
+tail_text (InRequestHead head) rest = head ++ rest
+tail_text (InResponseHead r head) rest = r.bytes ++ (head ++ rest)
+tail_text (InBody h sent body) rest = heads_text h (sent ++ rest)
+tail_text (LongRequest head) rest = head ++ rest
+tail_text (BadRequest head kind) rest = head ++ rest
+tail_text (FullTable r) rest = r.bytes ++ rest
+tail_text (LongResponse r head) rest = r.bytes ++ (head ++ rest)
+tail_text (BadResponse r head kind) rest = r.bytes ++ (head ++ rest)
+tail_text (BadBody h sent body b) rest = heads_text h (sent ++ (b ∷ rest))
 
 -- the state of its media resource after a whole exchange
 abbrev pub state_after : States → Exchange → MediaState
@@ -137,7 +137,7 @@ pub record Recording : Type 0 where
 
 -- the bytes are this recording: it begins with no media states, and nothing stands after what may go on
 pub record IsRecording (s : Settings) (bytes : List ℕ) (r : Recording) : Type 0 where
-  pub spells : bytes ≡ spell_exchanges r.exchanges (spell_tail r.tail r.more)
+  pub spells : bytes ≡ exchanges_text r.exchanges (tail_text r.tail r.more)
   pub exchanges : AreExchanges s map.empty r.exchanges
   pub tail : IsTail (table_after_all map.empty r.exchanges) r.tail
   pub last : is_open r.tail ≡ true → r.more ≡ []

@@ -12,7 +12,7 @@ use Rattle.orb_bytes.specs.Ascii.{crlf}
 use Rattle.orb_bytes.proofs.HexadecimalLemmas.{three_at_most}
 use Rattle.http_exchange.specs.Marks.{Mark, bytes_of, content_of, framing, content}
 use Rattle.http_exchange.specs.Chunked as tree
-use Rattle.http_exchange.specs.Chunked.{SizeLine, IsSizeLine, size_of, Chunked, IsChunked, spell, IsChunkedPrefix, IsChunkedWhole}
+use Rattle.http_exchange.specs.Chunked.{SizeLine, IsSizeLine, size_of, Chunked, IsChunked, chunked_marks, IsChunkedPrefix, IsChunkedWhole}
 use Rattle.http_exchange.specs.Chunks.{chunk, rest_chunk, last_chunk}
 use Rattle.trial.specs.Texts.{in_chunks, chunked_text}
 
@@ -94,37 +94,37 @@ content-content [] rest = refl
 content-content (b ∷ bytes) rest = ap (λ l. b ∷ l) (content-content bytes rest)
 
 chunk_bytes : (bytes : List ℕ) (others : Chunked)
-    → bytes_of (spell (tree.chunk (line_of (length bytes)) bytes others)) ≡ chunk bytes ++ bytes_of (spell others)
+    → bytes_of (chunked_marks (tree.chunk (line_of (length bytes)) bytes others)) ≡ chunk bytes ++ bytes_of (chunked_marks others)
 unfolding chunk
 chunk_bytes bytes others =
     let size = digits 16 false (length bytes) in
-    let rest = spell others in
+    let rest = chunked_marks others in
     bytes-framing size (framing crlf (content bytes (framing crlf rest)))
     ∙ ap (λ l. size ++ (crlf ++ l)) (bytes-content bytes (framing crlf rest) ∙ sym (append_assoc bytes crlf (bytes_of rest)))
     ∙ sym (append_assoc size (crlf ++ (bytes ++ crlf)) (bytes_of rest))
 
 chunk_content : (bytes : List ℕ) (others : Chunked)
-    → content_of (spell (tree.chunk (line_of (length bytes)) bytes others)) ≡ bytes ++ content_of (spell others)
+    → content_of (chunked_marks (tree.chunk (line_of (length bytes)) bytes others)) ≡ bytes ++ content_of (chunked_marks others)
 chunk_content bytes others =
     let size = digits 16 false (length bytes) in
-    content-framing size (framing crlf (content bytes (framing crlf (spell others))))
-    ∙ content-content bytes (framing crlf (spell others))
+    content-framing size (framing crlf (content bytes (framing crlf (chunked_marks others))))
+    ∙ content-content bytes (framing crlf (chunked_marks others))
 
-rest_bytes : (body : List ℕ) → bytes_of (spell (rest_tree body)) ≡ rest_chunk body ++ last_chunk
+rest_bytes : (body : List ℕ) → bytes_of (chunked_marks (rest_tree body)) ≡ rest_chunk body ++ last_chunk
 rest_bytes [] = refl
 rest_bytes (b ∷ bytes) = chunk_bytes (b ∷ bytes) end_tree
 
-tree_bytes : (size count : ℕ) (body : List ℕ) → bytes_of (spell (tree_of size count body)) ≡ in_chunks size count body
+tree_bytes : (size count : ℕ) (body : List ℕ) → bytes_of (chunked_marks (tree_of size count body)) ≡ in_chunks size count body
 tree_bytes size zero body = rest_bytes body
 tree_bytes size (suc count) body =
     chunk_bytes (take size body) (tree_of size count (drop size body))
     ∙ ap (λ l. chunk (take size body) ++ l) (tree_bytes size count (drop size body))
 
-rest_content : (body : List ℕ) → content_of (spell (rest_tree body)) ≡ body
+rest_content : (body : List ℕ) → content_of (chunked_marks (rest_tree body)) ≡ body
 rest_content [] = refl
 rest_content (b ∷ bytes) = chunk_content (b ∷ bytes) end_tree ∙ append-nil (b ∷ bytes)
 
-tree_content : (size count : ℕ) (body : List ℕ) → content_of (spell (tree_of size count body)) ≡ body
+tree_content : (size count : ℕ) (body : List ℕ) → content_of (chunked_marks (tree_of size count body)) ≡ body
 tree_content size zero body = rest_content body
 tree_content size (suc count) body =
     chunk_content (take size body) (tree_of size count (drop size body))
@@ -145,9 +145,9 @@ sent_is_prefix body =
     let tree = tree_of 100 (length body / 100) body in record {
       body = tree;
       good = tree_is (length body / 100) body refl;
-      prefix = spell tree;
+      prefix = chunked_marks tree;
       rest = [];
-      spells = sym (append-nil (spell tree));
+      spells = sym (append-nil (chunked_marks tree));
       reads = tree_bytes 100 (length body / 100) body;
       gives = tree_content 100 (length body / 100) body;
     }

@@ -13,11 +13,11 @@ use Rattle.orb_engine.specs.declared.settings.Settings.{Settings}
 use Rattle.exchanges.specs.Heads as heads
 use Rattle.exchanges.specs.Heads.{RequestText, ResponseText, Heads, IsRequestHead, AreHeads}
 use Rattle.orb_engine.specs.Judged.{judged_by}
-use Rattle.orb_engine.specs.Recording.{Exchange, IsExchange, spell_exchange, table_after, state_after}
+use Rattle.orb_engine.specs.Recording.{Exchange, IsExchange, exchange_text, table_after, state_after}
 use Rattle.trial.specs.declared.kinds.Kind.{Kind}
 use Rattle.trial.specs.declared.kinds.Kind.TheVariants.{Javascript, Nosniff, Png, Script, Json, Text, Jpeg, Media}
 use Rattle.http_exchange.specs.Messages.{head_text}
-use Rattle.trial.specs.Trials.{request_line, request_of, status_line, fields_of, body_of, sent_of, exchange_text}
+use Rattle.trial.specs.Trials.{request_line, request_of, status_line, fields_of, body_of, sent_of, kind_text}
 use Rattle.trial.proofs.Requests.{plain_asks, media_asks, plain_is_request, media_is_request}
 use Rattle.trial.proofs.ResponseKinds as responses
 use Rattle.trial.proofs.ResponseKinds.{ok, partial}
@@ -164,8 +164,8 @@ same_line Media = refl
 same_line _ = refl
 
 pub spells : (s : Settings) (table : States) (kind : Kind) (m id : ℕ) (rest : List ℕ)
-    → exchange_text kind m id ++ rest ≡ spell_exchange (exchange_for s table kind m id) rest
-unfolding exchange_text
+    → kind_text kind m id ++ rest ≡ exchange_text (exchange_for s table kind m id) rest
+unfolding kind_text
 spells s table kind m id rest =
     let request = head_text request_line (request_of kind id) in
     let fields = fields_of kind (length (body_of kind m)) in
@@ -184,8 +184,8 @@ pub response_fits : (kind : Kind) (n : ℕ) → n < 10000 → length (head_text 
 response_fits kind n small =
     subst (λ line. length (head_text line (fields_of kind n)) ≤ 384) (sym (same_line kind)) (says kind n small).fits
 
-pub text_fits : (kind : Kind) (m id : ℕ) → m < 1009 → id < 16 → length (exchange_text kind m id) ≤ 200000
-unfolding exchange_text head_limit
+pub text_fits : (kind : Kind) (m id : ℕ) → m < 1009 → id < 16 → length (kind_text kind m id) ≤ 200000
+unfolding kind_text head_limit
 text_fits kind m id short low =
     let request = head_text request_line (request_of kind id) in
     let n = length (body_of kind m) in

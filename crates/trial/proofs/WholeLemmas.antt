@@ -7,7 +7,7 @@ use Rattle.http_exchange.specs.Head.{head_length}
 use Rattle.orb_engine.specs.declared.settings.Settings.{Settings}
 use Rattle.orb_engine.specs.Ends.{stop_of}
 use Rattle.orb_engine.specs.Recording as cut
-use Rattle.orb_engine.specs.Recording.{Exchange, Recording, IsRecording, AreExchanges, table_after, spell_exchange, spell_exchanges}
+use Rattle.orb_engine.specs.Recording.{Exchange, Recording, IsRecording, AreExchanges, table_after, exchange_text, exchanges_text}
 use Rattle.trial.specs.Trials.{kind_of, size_of, id_of, numbered_text, trial_of}
 use Rattle.trial.specs.Recorded.{IsRecorded}
 use Rattle.trial.proofs.TableLemmas.{IsSmall, empty_is_small}
@@ -38,12 +38,12 @@ are_exchanges s table seed (suc count) small =
       are_exchanges s (table_after table (numbered s table seed)) (seed + 1) count stays,
     )
 
-spelled : (s : Settings) (table : States) (seed count : ℕ) → trial_of seed count ≡ spell_exchanges (exchanges_of s table seed count) []
+spelled : (s : Settings) (table : States) (seed count : ℕ) → trial_of seed count ≡ exchanges_text (exchanges_of s table seed count) []
 unfolding exchanges_of
 spelled s table seed zero = refl
 spelled s table seed (suc count) =
     spells s table (kind_of seed) (size_of seed) (id_of seed) (trial_of (seed + 1) count)
-    ∙ ap (spell_exchange (numbered s table seed)) (spelled s (table_after table (numbered s table seed)) (seed + 1) count)
+    ∙ ap (exchange_text (numbered s table seed)) (spelled s (table_after table (numbered s table seed)) (seed + 1) count)
 
 trial_fits : (seed count : ℕ) → length (trial_of seed count) ≤ count * 200000
 trial_fits seed zero = omega arith

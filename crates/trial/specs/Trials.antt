@@ -100,15 +100,15 @@ fields_of Media n =
     ∷ []
 
 -- an exchange of a kind, as it is sent: both heads, and the body
-unfoldable pub exchange_text : Kind → (m id : ℕ) → List ℕ
-exchange_text kind m id =
+unfoldable pub kind_text : Kind → (m id : ℕ) → List ℕ
+kind_text kind m id =
     head_text request_line (request_of kind id)
     ++ (head_text (status_line kind) (fields_of kind (length (body_of kind m)))
     ++ sent_of kind (body_of kind m))
 
 -- the exchange of this number
 abbrev pub numbered_text : ℕ → List ℕ
-numbered_text number = exchange_text (kind_of number) (size_of number) (id_of number)
+numbered_text number = kind_text (kind_of number) (size_of number) (id_of number)
 
 -- so many exchanges, whose numbers go on from the seed
 abbrev pub trial_of : (seed count : ℕ) → List ℕ

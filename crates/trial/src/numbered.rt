@@ -8,7 +8,7 @@ use crate::kinds::kind_of;
 use arrayvec::ArrayVec;
 
 /// Writes the exchange of this number, in the place of what stands there.
-#[tactic(auto, unfolding(crate::specs::Trials::exchange_text))]
+#[tactic(auto, unfolding(crate::specs::Trials::kind_text))]
 pub(crate) fn write_exchange(text: &mut ArrayVec<u8, ROOM>, number: u64)
     ensures text { text.new.items ≡ numbered_text number }
     ensures some { 0 < length text.new.items }

@@ -1,6 +1,6 @@
 use Rattle.std.proofs.Common.{◌≤◌, length, ap, ◌∙◌, arith, append_assoc, length-append}
 use Rattle.http_exchange.specs.Messages.{head_text}
-use Rattle.trial.specs.Trials.{kind_of, size_of, id_of, request_line, request_of, status_line, fields_of, body_of, sent_of, exchange_text}
+use Rattle.trial.specs.Trials.{kind_of, size_of, id_of, request_line, request_of, status_line, fields_of, body_of, sent_of, kind_text}
 use Rattle.trial.proofs.ExchangeLemmas.{body_some, body_length, jpeg_length, response_fits}
 use Rattle.trial.proofs.numbered.write_exchange.Goals as goal
 
@@ -41,7 +41,7 @@ append_sent-requires-clause-chunked c jpeg =
     omega (arith, ap length body, jpeg_length (size_of c.args.number) (omega arith))
 
 pub returns-clause-text : goal.returns-clause-text
-unfolding exchange_text
+unfolding kind_text
 returns-clause-text c =
     let size = size_of c.args.number in
     let kind = c.kind_of-kind.result in
