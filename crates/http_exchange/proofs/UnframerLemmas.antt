@@ -1,5 +1,5 @@
 -- What an unframer answers, by its frame.
-use Rattle.std.proofs.Common.{◌≡◌, ℕ, suc, ◌+◌, ◌-◌, ◌<◌, ◌≤◌, true, false, List, [], ◌∷◌, ◌++◌, length, take, drop, min, refl, sym, ap, subst, ◌∙◌, arith, append-nil, length-append, ⊎_elim, inl, inr}
+use Rattle.std.proofs.Common.{◌≡◌, ◌⊎◌, ℕ, Bool, zero, suc, ◌+◌, ◌-◌, ◌<◌, ◌≤◌, true, false, List, [], ◌∷◌, ◌++◌, length, take, drop, min, refl, sym, ap, subst, ◌∙◌, arith, append-nil, length-append, ⊎_elim, inl, inr}
 use Rattle.std.proofs.lemmas.Bool.{cases_Bool, false≢true, cases_lt}
 use Rattle.std.proofs.lemmas.List.{length-take, length-take-le, take_all}
 use Rattle.std.proofs.Math.Nat.{eq-or-lt_of_le}
@@ -305,6 +305,33 @@ whole_read p frame.Chunked m given h =
 whole_read p frame.Empty m given h = absurd h
 whole_read p (frame.Length n) m given h = absurd h
 whole_read p frame.ToEnd m given h = absurd h
+
+-- an unframer that has read nothing
+pub starts : (f : BodyFrame) → (u : Reading) × StandsAt u f [] []
+starts frame.Empty = (Counted 0, (refl, refl, refl))
+starts (frame.Length n) = (Counted n, (omega arith, refl))
+starts frame.Chunked = (Chunks (Size 0 0), (refl, refl, refl))
+starts frame.ToEnd = (Rest, refl)
+
+-- whether a body is whole is known where an unframer has read it
+pub whole-or-not : (u : Reading) (f : BodyFrame) (m g : List ℕ) → StandsAt u f m g → IsWhole f m ⊎ (IsWhole f m → ⊥)
+whole-or-not (Counted left) frame.Empty m g h = inl h.1
+whole-or-not (Counted zero) (frame.Length n) m g h = inl (omega (arith, h.0))
+whole-or-not (Counted (suc left)) (frame.Length n) m g h = inr (λ whole. absurd (omega (arith, h.0, whole)))
+whole-or-not (Counted left) frame.Chunked m g h = absurd h
+whole-or-not (Counted left) frame.ToEnd m g h = absurd h
+whole-or-not (Chunks p) frame.Chunked m g h = by (is_end p) refl
+  where
+    by : (b : Bool) → is_end p ≡ b → IsWhole frame.Chunked m ⊎ (IsWhole frame.Chunked m → ⊥)
+    by true is = inl ((whole_read p frame.Chunked m g h).0 is)
+    by false is = inr (λ whole. false≢true (sym is ∙ (whole_read p frame.Chunked m g h).1 whole))
+whole-or-not (Chunks p) frame.Empty m g h = absurd h
+whole-or-not (Chunks p) (frame.Length n) m g h = absurd h
+whole-or-not (Chunks p) frame.ToEnd m g h = absurd h
+whole-or-not Rest frame.ToEnd m g h = inr (λ never. never)
+whole-or-not Rest frame.Empty m g h = absurd h
+whole-or-not Rest (frame.Length n) m g h = absurd h
+whole-or-not Rest frame.Chunked m g h = absurd h
 
 -- ---- what holds whatever was read
 

@@ -1,26 +1,20 @@
 -- A response that is relayed.
-use Rattle.std.proofs.Common.{◌≡◌, ◌⊎◌, ℕ, zero, suc, ◌+◌, ◌<◌, ◌≤◌, ◌^◌, Bool, true, false, List, [], ◌∷◌, ◌++◌, length, take, drop, get_or, refl, sym, ap, subst, ◌∙◌, inl, inr, arith, append_assoc, length-append, add-one, Result, Ok, Err, Option}
+use Rattle.std.proofs.Common.{◌≡◌, ℕ, zero, suc, ◌+◌, ◌<◌, ◌≤◌, ◌^◌, Bool, true, false, List, [], ◌∷◌, ◌++◌, length, take, drop, get_or, refl, sym, ap, subst, ◌∙◌, inl, inr, arith, append_assoc, length-append, add-one, Err}
 use Rattle.std.proofs.lemmas.List.{append-nil, take-append-drop, take_more, take_all, take-append-le}
-use Rattle.std.proofs.lemmas.Bool.{false≢true}
 use Rattle.std.proofs.Math.Seq.{drop-cons}
-use Rattle.orb_io.specs.Told.{Loses, IsAtEnd, IsPrefix}
-use Rattle.orb_io.proofs.ToldLemmas.{Loses-twice, IsPrefix-all, IsPrefix-trans}
+use Rattle.orb_io.specs.Told.{IsPrefix}
+use Rattle.orb_io.proofs.ToldLemmas.{IsPrefix-trans}
 use Rattle.http_exchange.specs.Frames.{IsBodyPrefix, IsWhole}
 use Rattle.http_exchange.specs.HeadTexts.{IsHeadText, IsOpenHead, IsLongHead}
 use Rattle.http_exchange.specs.Reading.{ReadsResponseHead}
-use Rattle.http_exchange.specs.Places.{is_end}
-use Rattle.http_exchange.specs.Reads.{StandsAt, Gets, Refuses, is_ended, HasRead as UnframerHasRead}
+use Rattle.http_exchange.specs.Reads.{Gets, Refuses, is_ended, HasRead as UnframerHasRead}
 use Rattle.http_exchange.specs.Fields.{pairs_of}
 use Rattle.httparse.specs.Grammar.{status_code}
 use Rattle.http_exchange.specs.declared.refusals.BadKind.{BadKind}
 use Rattle.http_exchange.specs.declared.refusals.BadKind.TheVariants.{BadChunk}
 use Rattle.http_exchange.specs.declared.frames.BodyFrame.{BodyFrame}
-use Rattle.http_exchange.specs.declared.frames.BodyFrame.TheVariants as frame
-use Rattle.http_exchange.specs.declared.places.Place.TheVariants.{Size}
-use Rattle.http_exchange.specs.declared.unframing.Reading.{Reading}
-use Rattle.http_exchange.specs.declared.unframing.Reading.TheVariants.{Counted, Chunks, Rest}
 use Rattle.http_exchange.specs.declared.unframing.Unframer.{Unframer}
-use Rattle.http_exchange.proofs.UnframerLemmas.{whole_read, prefix_read}
+use Rattle.http_exchange.proofs.UnframerLemmas.{prefix_read, starts, whole-or-not}
 use Rattle.response_rules.specs.declared.facts.Facts.{Facts}
 use Rattle.response_rules.specs.declared.rules.Rule.{Rule}
 use Rattle.response_rules.specs.declared.verdicts.Verdict.{Verdict}
@@ -42,32 +36,6 @@ use Rattle.live_proxy.specs.Answers.{run_limit, Shows, Fails, EndsAt, Leaves, St
 use Rattle.live_proxy.specs.Relaying.{Receives, HasPassed, IsFilled}
 use Rattle.live_proxy.specs.declared.relaying.Arriving.{Arriving}
 use Rattle.live_proxy.specs.declared.outcomes.ProxyOutcome.TheVariants as outcome
-
--- an unframer that has read nothing
-starts : (f : BodyFrame) → (u : Reading) × StandsAt u f [] []
-starts frame.Empty = (Counted 0, (refl, refl, refl))
-starts (frame.Length n) = (Counted n, (omega arith, refl))
-starts frame.Chunked = (Chunks (Size 0 0), (refl, refl, refl))
-starts frame.ToEnd = (Rest, refl)
-
-whole-or-not : (u : Reading) (f : BodyFrame) (m g : List ℕ) → StandsAt u f m g → IsWhole f m ⊎ (IsWhole f m → ⊥)
-whole-or-not (Counted left) frame.Empty m g h = inl h.1
-whole-or-not (Counted zero) (frame.Length n) m g h = inl (omega (arith, h.0))
-whole-or-not (Counted (suc left)) (frame.Length n) m g h = inr (λ whole. absurd (omega (arith, h.0, whole)))
-whole-or-not (Counted left) frame.Chunked m g h = absurd h
-whole-or-not (Counted left) frame.ToEnd m g h = absurd h
-whole-or-not (Chunks p) frame.Chunked m g h = by (is_end p) refl
-  where
-    by : (b : Bool) → is_end p ≡ b → IsWhole frame.Chunked m ⊎ (IsWhole frame.Chunked m → ⊥)
-    by true is = inl ((whole_read p frame.Chunked m g h).0 is)
-    by false is = inr (λ whole. false≢true (sym is ∙ (whole_read p frame.Chunked m g h).1 whole))
-whole-or-not (Chunks p) frame.Empty m g h = absurd h
-whole-or-not (Chunks p) (frame.Length n) m g h = absurd h
-whole-or-not (Chunks p) frame.ToEnd m g h = absurd h
-whole-or-not Rest frame.ToEnd m g h = inr (λ never. never)
-whole-or-not Rest frame.Empty m g h = absurd h
-whole-or-not Rest (frame.Length n) m g h = absurd h
-whole-or-not Rest frame.Chunked m g h = absurd h
 
 -- these bytes of a response were seen when the client failed
 pub failed : (c : Context) (r : ResponseText) (u : Unframer) (bytes sent body rest given : List ℕ)

@@ -1,5 +1,5 @@
 -- A body that begins.
-use Rattle.std.proofs.Common.{◌≡◌, ℕ, Bool, false, List, [], ◌++◌, refl, sym, ap, subst, ◌∙◌, arith}
+use Rattle.std.proofs.Common.{◌≡◌, ℕ, Bool, false, List, [], ◌++◌, refl, sym, ap, subst, ◌∙◌}
 use Rattle.std.specs.FinMap as map
 use Rattle.std.proofs.lemmas.List.{append-nil}
 use Rattle.orb_io.specs.Told.{IsPrefix}
@@ -8,11 +8,7 @@ use Rattle.body_filter.specs.Responses as filter
 use Rattle.http_exchange.specs.Reads.{StandsAt}
 use Rattle.http_exchange.specs.Reads.{HasRead as UnframerHasRead}
 use Rattle.http_exchange.specs.declared.frames.BodyFrame.{BodyFrame}
-use Rattle.http_exchange.specs.declared.frames.BodyFrame.TheVariants as frame
-use Rattle.http_exchange.specs.declared.places.Place.TheVariants.{Size}
-use Rattle.http_exchange.specs.declared.unframing.Reading.{Reading}
-use Rattle.http_exchange.specs.declared.unframing.Reading.TheVariants.{Counted, Chunks, Rest}
-use Rattle.http_exchange.proofs.UnframerLemmas.{prefix_read}
+use Rattle.http_exchange.proofs.UnframerLemmas.{prefix_read, starts}
 use Rattle.orb_engine.specs.declared.settings.Settings.{Settings}
 use Rattle.orb_engine.specs.declared.engine.Engine.{Engine}
 use Rattle.orb_engine.specs.declared.engine.states.Asked.{Asked}
@@ -25,13 +21,6 @@ use Rattle.orb_engine.specs.Writing.{WriterReads, gathered_by}
 use Rattle.orb_engine.specs.Reads.{Coming, coming_response, coming_written, coming_text, table_of, Fills, Breaks, HasReadHeads}
 use Rattle.orb_engine.proofs.StepLemmas.{seen-body, breaks-body}
 use Rattle.orb_engine.proofs.PassLemmas.{IsKept, common-kept}
-
--- an unframer that has read nothing
-starts : (f : BodyFrame) → (u : Reading) × StandsAt u f [] []
-starts frame.Empty = (Counted 0, (refl, refl, refl))
-starts (frame.Length n) = (Counted n, (omega arith, refl))
-starts frame.Chunked = (Chunks (Size 0 0), (refl, refl, refl))
-starts frame.ToEnd = (Rest, refl)
 
 -- the exchange whose heads have been read
 abbrev pub begun : (asked : Asked) (read : Facts × BodyFrame) (e : Engine) (s : Settings) (m given : List ℕ)

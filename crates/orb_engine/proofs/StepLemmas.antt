@@ -1,21 +1,16 @@
 -- How much of a body was read, and what a fault in it leaves.
-use Rattle.std.proofs.Common.{Result, ◌≡◌, ◌⊎◌, ℕ, zero, suc, ◌+◌, ◌≤◌, Bool, true, false, List, [], ◌∷◌, ◌++◌, length, refl, sym, ap, subst, ◌∙◌, inl, inr, arith, append_assoc}
+use Rattle.std.proofs.Common.{Result, ◌≡◌, ℕ, ◌+◌, ◌≤◌, false, List, [], ◌∷◌, ◌++◌, length, refl, sym, ap, subst, ◌∙◌, inl, inr, arith, append_assoc}
 use Rattle.std.specs.FinMap as map
 use Rattle.std.proofs.lemmas.List.{append-nil}
-use Rattle.std.proofs.lemmas.Bool.{false≢true}
 use Rattle.orb_io.specs.Told.{IsPrefix}
 use Rattle.orb_io.proofs.ToldLemmas.{IsPrefix-all, IsPrefix-trans, IsPrefix-after, IsPrefix-append}
 use Rattle.http_exchange.specs.Marks.{Mark, Frame, Content, bytes_of, content_of}
-use Rattle.http_exchange.specs.Places.{is_end}
 use Rattle.http_exchange.specs.Frames.{IsBodyPrefix, IsWhole}
-use Rattle.http_exchange.specs.Reads.{StandsAt}
 use Rattle.http_exchange.specs.Reads.{HasRead as UnframerHasRead}
 use Rattle.http_exchange.specs.declared.frames.BodyFrame.{BodyFrame}
 use Rattle.http_exchange.specs.declared.frames.BodyFrame.TheVariants as frame
-use Rattle.http_exchange.specs.declared.unframing.Reading.{Reading}
-use Rattle.http_exchange.specs.declared.unframing.Reading.TheVariants.{Counted, Chunks, Rest}
 use Rattle.http_exchange.specs.declared.unframing.Unframer.{Unframer}
-use Rattle.http_exchange.proofs.UnframerLemmas.{whole_read}
+use Rattle.http_exchange.proofs.UnframerLemmas.{whole-or-not}
 use Rattle.orb_engine.specs.declared.settings.Settings.{Settings}
 use Rattle.orb_engine.specs.declared.engine.Engine.{Engine}
 use Rattle.exchanges.specs.Heads.{Heads, AreHeads}
@@ -40,26 +35,6 @@ prefix-short frame.Empty m g h = omega (arith, ap length h.1)
 prefix-short (frame.Length n) m g h = omega (arith, ap length h.1)
 prefix-short frame.Chunked m g h = rw (← h.reads, ← h.gives) (content-short h.prefix)
 prefix-short frame.ToEnd m g h = omega (arith, ap length h)
-
--- whether a body is whole is known where an unframer has read it
-pub whole-or-not : (u : Reading) (f : BodyFrame) (m g : List ℕ) → StandsAt u f m g → IsWhole f m ⊎ (IsWhole f m → ⊥)
-whole-or-not (Counted left) frame.Empty m g h = inl h.1
-whole-or-not (Counted zero) (frame.Length n) m g h = inl (omega (arith, h.0))
-whole-or-not (Counted (suc left)) (frame.Length n) m g h = inr (λ whole. absurd (omega (arith, h.0, whole)))
-whole-or-not (Counted left) frame.Chunked m g h = absurd h
-whole-or-not (Counted left) frame.ToEnd m g h = absurd h
-whole-or-not (Chunks p) frame.Chunked m g h = by (is_end p) refl
-  where
-    by : (b : Bool) → is_end p ≡ b → IsWhole frame.Chunked m ⊎ (IsWhole frame.Chunked m → ⊥)
-    by true is = inl ((whole_read p frame.Chunked m g h).0 is)
-    by false is = inr (λ whole. false≢true (sym is ∙ (whole_read p frame.Chunked m g h).1 whole))
-whole-or-not (Chunks p) frame.Empty m g h = absurd h
-whole-or-not (Chunks p) (frame.Length n) m g h = absurd h
-whole-or-not (Chunks p) frame.ToEnd m g h = absurd h
-whole-or-not Rest frame.ToEnd m g h = inr (λ never. never)
-whole-or-not Rest frame.Empty m g h = absurd h
-whole-or-not Rest (frame.Length n) m g h = absurd h
-whole-or-not Rest frame.Chunked m g h = absurd h
 
 -- a recording of the bytes up to those of a body that have come, whose output begins with what is written of these
 pub record IsSeen (s : Settings) (m : List ℕ) (exchanges : List Exchange) (wrote : List ℕ) : Type 0 where
