@@ -12,7 +12,6 @@ use Rattle.http_exchange.specs.Head.{head_length}
 use Rattle.http_exchange.specs.Reading.{ReadsRequestHead, ReadsResponseHead}
 use Rattle.http_exchange.specs.RequestFields.{request_of}
 use Rattle.http_exchange.specs.ResponseFields.{frame_of}
-use Rattle.http_exchange.specs.declared.frames.BodyFrame.{BodyFrame}
 use Rattle.http_exchange.specs.declared.refusals.BadKind.{BadKind}
 use Rattle.http_exchange.specs.declared.request.RequestHead.{RequestHead}
 use Rattle.http_exchange.specs.declared.response.ResponseHead.{ResponseHead}

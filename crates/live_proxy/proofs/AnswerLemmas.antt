@@ -1,8 +1,8 @@
 -- What is known of an answer once its response was relayed.
-use Rattle.std.proofs.Common.{◌≡◌, ℕ, ◌≤◌, Bool, true, false, List, [], ◌++◌, length, refl, sym, ap, subst, ◌∙◌, Result, Ok, Err, Option, Some, inl, arith}
+use Rattle.std.proofs.Common.{◌≡◌, ℕ, Bool, false, List, [], refl, sym, ap, subst, ◌∙◌, Ok, Err, Option, Some, inl, arith}
 use Rattle.std.proofs.lemmas.Bool.{false≢true}
 use Rattle.std.proofs.lemmas.List.{append-nil}
-use Rattle.orb_io.specs.Told.{Told, Gives, Gains, GainsPrefix, Loses, IsAtEnd}
+use Rattle.orb_io.specs.Told.{Told, Gives, Gains}
 use Rattle.orb_io.proofs.ToldLemmas.{Loses-none}
 use Rattle.orb_io.proofs.GivesLemmas.{Gives-weaker}
 use Rattle.live_proxy.proofs.GatherLemmas.{open-none}
@@ -16,7 +16,7 @@ use Rattle.live_proxy.specs.Requests.{Request}
 use Rattle.live_proxy.specs.Proxies.{limit_of, table_of, Holds}
 use Rattle.live_proxy.specs.declared.proxy.Proxy.{Proxy}
 use Rattle.live_proxy.specs.declared.proxy.Asked.{Asked}
-use Rattle.live_proxy.specs.Answers.{context_of, run_limit, Shows, Leaves, IsLeft, Stops, AnswerSays, Answered, Sends, AnswerCauses}
+use Rattle.live_proxy.specs.Answers.{context_of, Stops, AnswerSays, Answered, Sends, AnswerCauses}
 use Rattle.live_proxy.specs.Relaying.{Pulled, RelaySays, RelayCauses, is_endless}
 use Rattle.live_proxy.specs.declared.outcomes.ProxyOutcome.TheVariants as outcome
 use Rattle.live_proxy.specs.declared.outcomes.ProxyOutcome.{ProxyOutcome}

@@ -38,8 +38,3 @@ long left left' left'' before piece after room first second open_ short (prefix,
     omega (arith, open_.fits, length-append before piece, short),
   );
 }
-
--- what follows of the bytes that were lost
-pub lost-weaker : (left left' : Option (List ℕ)) (P Q : List ℕ → Type 0) → ((read : List ℕ) → P read → Q read) → Lost left left' P
-    → Lost left left' Q
-lost-weaker left left' P Q weaker lost = record { read = lost.read; lost = lost.lost; holds = weaker lost.read lost.holds }

@@ -1,4 +1,4 @@
-use Rattle.std.proofs.Common.{[], refl, ◌∙◌}
+use Rattle.std.proofs.Common.{[], ◌∙◌}
 use Rattle.orb_io.proofs.GivesLemmas.{Gives-none, Gives-weaker}
 use Rattle.live_proxy.specs.Responses.{judged_in}
 use Rattle.live_proxy.proofs.RelayLemmas.{text_read, same-response, refused, begun, begun-fails}

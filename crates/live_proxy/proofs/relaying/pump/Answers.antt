@@ -1,4 +1,4 @@
-use Rattle.std.proofs.Common.{Result, Err, [], ◌++◌, length, take, false, true, refl, sym, ap, subst, ◌∙◌, arith, append_assoc, length-append, length-take}
+use Rattle.std.proofs.Common.{Result, Err, [], ◌++◌, take, false, true, refl, sym, ◌∙◌, arith, append_assoc, length-append, length-take}
 use Rattle.std.proofs.lemmas.Bool.{false≢true}
 use Rattle.std.proofs.lemmas.List.{append-nil}
 use Rattle.orb_io.proofs.ToldLemmas.{Loses-none, Loses-twice}

@@ -1,12 +1,9 @@
-use Rattle.std.proofs.Common.{Result, Ok, Err, refl, sym, arith, ◌++◌}
+use Rattle.std.proofs.Common.{Result, Ok, Err, refl, arith, ◌++◌}
 use Rattle.orb_io.proofs.GivesLemmas.{Gives-weaker, Gives-then, Delivers-as}
-use Rattle.media_state.specs.declared.states.MediaState.{MediaState}
 use Rattle.body_filter.specs.declared.pushing.WriteFault.{WriteFault}
 use Rattle.response_rules.specs.declared.verdicts.Verdict.{Verdict}
 use Rattle.response_rules.specs.Reads.{IsVerdict}
 use Rattle.live_proxy.specs.Responses.{response_in, judged_in}
-use Rattle.live_proxy.specs.Relaying.{RelaySays}
-use Rattle.live_proxy.specs.declared.outcomes.ProxyOutcome.{ProxyOutcome}
 use Rattle.live_proxy.proofs.RelayLemmas.{ended-well, ended-fails}
 use Rattle.live_proxy.proofs.PullLemmas.{pulled-none, pulled-says}
 use Rattle.live_proxy.proofs.relaying.relay_body.Goals as goal

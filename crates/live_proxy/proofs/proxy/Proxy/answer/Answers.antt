@@ -1,4 +1,4 @@
-use Rattle.std.proofs.Common.{[], List, ℕ, Bool, true, false, refl, sym, ap, subst, ◌∙◌, inr}
+use Rattle.std.proofs.Common.{[], refl, sym, ap, ◌∙◌, inr}
 use Rattle.media_state.specs.Table.{stored}
 use Rattle.orb_io.proofs.GivesLemmas.{Gives-none}
 use Rattle.live_proxy.proofs.AnswerLemmas.{unanswered, gives-done, gives-stop, sent, answer-causes, context-is}
