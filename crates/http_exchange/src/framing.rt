@@ -152,9 +152,20 @@ fn append_chunk(text: &mut Vec<u8>, prefix: &[u8], back: &[u8])
     ensures capacity { vec_capacity text.old ≤ vec_capacity text.new }
 {
     append(text, b"400\r\n");
-    append(text, prefix);
+    append_nonempty(text, prefix);
     append(text, back);
     append(text, b"\r\n");
+}
+
+/// Appends the bytes, for which there is room: of the chunks that a piece fills only the first has some.
+fn append_nonempty(text: &mut Vec<u8>, bytes: &[u8])
+    requires { vec_len text.old + length bytes.now ≤ vec_capacity text.old }
+    ensures items { text.new.items ≡ text.old.items ++ bytes.now }
+    ensures capacity { vec_capacity text.old ≤ vec_capacity text.new }
+{
+    if !bytes.is_empty() {
+        append(text, bytes);
+    }
 }
 
 /// Puts a chunk of the rest, where there is a rest, and the last chunk, by one push.
