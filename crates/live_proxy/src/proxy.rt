@@ -344,10 +344,7 @@ mod tests {
     }
 
     /// What a proxy answers to a client whose third pull fails.
-    fn heard_at_fault(
-        alloc: Global,
-        proxy: &mut Proxy,
-    ) -> Result<Result<(), ProxyRefusal>, Fail> {
+    fn heard_at_fault(alloc: Global, proxy: &mut Proxy) -> Result<Result<(), ProxyRefusal>, Fail> {
         let mut client = MemorySource::new(b"GET".to_vec(alloc)?, 1, [2].to_vec(alloc)?);
         Ok(proxy.request(alloc, &mut client))
     }
