@@ -119,6 +119,12 @@ chunk-full prefix back full =
     ap (λ d. d ++ (crlf ++ ((prefix ++ back) ++ crlf)))
     (sym (ap (digits 16 false) (length-append prefix back ∙ full) ∙ size_line))
 
+-- the same, part after part
+pub chunk-parts : (prefix back : List ℕ) → length prefix + length back ≡ 1024
+    → (52 ∷ 48 ∷ 48 ∷ 13 ∷ 10 ∷ []) ++ (prefix ++ (back ++ (13 ∷ 10 ∷ []))) ≡ chunk (prefix ++ back)
+chunk-parts prefix back full =
+    ap (λ t. (52 ∷ 48 ∷ 48 ∷ 13 ∷ 10 ∷ []) ++ t) (sym (append_assoc prefix back (13 ∷ 10 ∷ []))) ∙ chunk-full prefix back full
+
 after : (text line prefix back end : List ℕ)
     → (((text ++ line) ++ prefix) ++ back) ++ end ≡ text ++ (((line ++ prefix) ++ back) ++ end)
 after text line prefix back end = simp append_assoc

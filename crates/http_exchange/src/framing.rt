@@ -82,6 +82,20 @@ impl Framer {
         }
     }
 
+    /// Puts the next piece as [`Framer::put`] does, into a sink that gathers: each part of a chunk is a push.
+    pub fn put_parts<O: Sink>(&mut self, piece: &[u8], sink: &mut O) -> Result<(), Failed>
+        ensures puts { Puts O.Sink result sink.old sink.new (put_of (is_chunked_by self.old) (kept_by self.old) piece.now) }
+        ensures rest { OnOk result
+            (kept_by self.new ≡ kept_after (is_chunked_by self.old) (kept_by self.old) piece.now) }
+        ensures chunked { is_chunked_by self.new ≡ is_chunked_by self.old }
+    {
+        if self.chunked {
+            push_chunks(&mut self.rest, piece, sink)
+        } else {
+            push_nonempty(piece, sink)
+        }
+    }
+
     /// Puts the end of the body: nothing, or a chunk of the rest and the last chunk.
     pub fn finish<O: Sink>(&mut self, sink: &mut O) -> Result<(), Failed>
         ensures puts { Puts O.Sink result sink.old sink.new (end_of (is_chunked_by self.old) (kept_by self.old)) }
@@ -119,6 +133,37 @@ fn put_chunks<O: Sink>(
     }
     append(rest, left);
     Ok(())
+}
+
+/// Pushes each chunk that the piece fills after the rest, part by part, and keeps what fills none.
+fn push_chunks<O: Sink>(rest: &mut Vec<u8>, piece: &[u8], sink: &mut O) -> Result<(), Failed>
+    requires short { length rest.old.items < 1024 }
+    requires rest_room { 1024 ≤ vec_capacity rest.old }
+    ensures puts { Puts O.Sink result sink.old sink.new (full_chunks (count_full (rest.old.items ++ piece.now)) (rest.old.items ++ piece.now)) }
+    ensures rest { OnOk result (rest.new.items ≡ rest_of (rest.old.items ++ piece.now)) }
+    ensures short { length rest.new.items < 1024 }
+    ensures rest_room { 1024 ≤ vec_capacity rest.new }
+{
+    let mut left = piece;
+    'chunks: while CHUNK - rest.len() <= left.len() {
+        let (bytes, after) = left.split_at(CHUNK - rest.len());
+        push_chunk(rest.as_slice(), bytes, sink)?;
+        rest.clear();
+        left = after;
+    }
+    append(rest, left);
+    Ok(())
+}
+
+/// Pushes the full chunk of these bytes and those after them.
+fn push_chunk<O: Sink>(prefix: &[u8], back: &[u8], sink: &mut O) -> Result<(), Failed>
+    requires { length prefix.now + length back.now ≡ 1024 }
+    ensures { Puts O.Sink result sink.old sink.new (chunk (prefix.now ++ back.now)) }
+{
+    push_nonempty(b"400\r\n", sink)?;
+    push_nonempty(prefix, sink)?;
+    push_nonempty(back, sink)?;
+    push_nonempty(b"\r\n", sink)
 }
 
 /// Makes the text chunks of the rest and the piece after it, as many as it has room for. It gives
