@@ -93,6 +93,37 @@ whole-length true m =
     )
 whole-length false m = omega arith
 
+-- what a piece fills of chunks
+put-length : (chunked : Bool) (kept p : List ℕ) → length (put_of chunked kept p) ≤ 2 * (length kept + length p)
+unfolding put_of chunk_size
+put-length true kept p =
+    omega (arith, full-length (count_full (kept ++ p)) (kept ++ p) (full_fits (kept ++ p)), full_fits (kept ++ p), length-append kept p)
+put-length false kept p = omega arith
+
+-- what ends a body
+end-length : (chunked : Bool) (m : List ℕ) → length (end_of chunked (kept_of chunked m)) ≤ 2 * length (kept_of chunked m) + 128
+unfolding end_of kept_of chunk_size
+end-length true m =
+    omega (arith, length-append (rest_chunk (rest_of m)) last_chunk, rest-short_chunk (rest_of m) (rest-short m))
+end-length false m = omega arith
+
+-- of a body that goes out, what a further piece lets out, and the end
+pub sent-feeds : (x : Response) (m p : List ℕ) → is_sent x.judged m ≡ true
+    → length (output_so_far x (m ++ p)) ≤ length (output_so_far x m) + 2 * (length (kept_of x.chunked m) + length p)
+sent-feeds x m p sent =
+    let more = put_of x.chunked (kept_of x.chunked m) p in
+    let body = body_so_far x.chunked m in
+    rw (so_far-sent x m sent, so_far-sent x (m ++ p) (sent-longer x.judged m p sent), prefix-on x.chunked m p)
+    (omega (arith, length-append x.bytes body, length-append x.bytes (body ++ more), length-append body more, put-length x.chunked (kept_of x.chunked m) p))
+
+pub sent-ends : (x : Response) (m : List ℕ) → is_sent x.judged m ≡ true
+    → length (whole_output x m) ≤ length (output_so_far x m) + 2 * length (kept_of x.chunked m) + 128
+sent-ends x m sent =
+    let end = end_of x.chunked (kept_of x.chunked m) in
+    let body = body_so_far x.chunked m in
+    rw (so_far-sent x m sent, whole-allowed x m (sent-allows x.judged m sent), whole-is x.chunked m)
+    (omega (arith, length-append x.bytes body, length-append x.bytes (body ++ end), length-append body end, end-length x.chunked m))
+
 pub so_far-length : (x : Response) (m : List ℕ) → length (output_so_far x m) ≤ length x.bytes + 2 * length m
 so_far-length x m = by (is_sent x.judged m) refl
   where

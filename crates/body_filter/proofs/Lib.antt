@@ -4,3 +4,4 @@ pub mod HeldLemmas
 pub mod LawLemmas
 pub mod OwedLemmas
 pub mod PhaseLemmas
+pub mod GrowthLemmas

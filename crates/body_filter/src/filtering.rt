@@ -5,7 +5,7 @@ use crate::judging::{Judgement, judge, read_on};
 use crate::phases::{Phase, idle_at_fault};
 use crate::pushing::{WriteFault, put_bytes};
 use crate::replying::put_reply;
-use crate::writing::{put_last, put_piece, put_whole, release};
+use crate::writing::{Pushes, put_last, put_piece, put_whole, release};
 use http_exchange::Framer;
 use orb_bytes::append;
 use orb_io::{NoMemory, Sink};
@@ -27,13 +27,14 @@ pub struct Filter {
     head: Vec<u8>,
     held: Vec<u8>,
     ghost window: { 1024 ≤ limit },
+    ghost high: { limit ≤ 268435456 },
     ghost fits: { vec_len held ≤ limit },
     ghost room: { limit ≤ vec_capacity held },
     ghost head_room: { 65536 ≤ vec_capacity head },
 }
 
 impl Filter {
-    ghost use Rattle.std.specs.Prelude.{◌≡◌, ℕ, ◌++◌, List, [], length, IfOk, OnOk, OnErr};
+    ghost use Rattle.std.specs.Prelude.{◌≡◌, ℕ, ◌+◌, ◌*◌, ◌++◌, List, [], length, IfOk, OnOk, OnErr};
     ghost use Rattle.orb_io.specs.Told.{Delivers};
     ghost use Rattle.orb_io.specs.Calls.{Calls};
     ghost use Rattle.response_rules.specs.Heads.{Case};
@@ -128,9 +129,27 @@ impl Filter {
         ensures calls { Calls O.Sink result sink.old sink.new }
         ensures limit { limit_of self.new ≡ limit_of self.old }
     {
+        self.feed_by(piece, Pushes::Batches, sink)
+    }
+
+    /// Reads the next piece of the body as `feed` does, and pushes chunks in this way.
+    pub fn feed_by<O: Sink>(
+        &mut self,
+        piece: &[u8],
+        pushes: Pushes,
+        sink: &mut O,
+    ) -> Result<(), WriteFault>
+        requires { CanFeed self.old }
+        ensures delivers { (x : Response) (m : List ℕ) → HasRead self.old x m
+            → Delivers result (O.told sink.old) (O.told sink.new)
+            (output_so_far x m) (output_so_far x (m ++ piece.now)) (λ _. HasRead self.new x (m ++ piece.now)) }
+        ensures spent { OnErr result (IsSpent self.new) }
+        ensures calls { Calls O.Sink result sink.old sink.new }
+        ensures limit { limit_of self.new ≡ limit_of self.old }
+    {
         match self.phase {
-            Phase::Holding => self.feed_held(piece, sink),
-            Phase::Passing => self.feed_sent(piece, sink),
+            Phase::Holding => self.feed_held(piece, pushes, sink),
+            Phase::Passing => self.feed_sent(piece, pushes, sink),
             Phase::Dropping => {
                 let _judgement = read_on(&mut self.decider, piece);
                 Ok(())
@@ -165,12 +184,18 @@ impl Filter {
         self.limit as u64
     }
 
-    /// How many bytes of the body are held back.
+    /// How many bytes of the body are held back. A further piece lets out at most the head, and twice what is held and the
+    /// piece, and the end at most 128 bytes besides.
     pub fn held(&self) -> usize
         ensures value { result ≡ held_in self.now }
         ensures exact { (x : Response) (m : List ℕ) → HasRead self.now x m
             → result ≡ held_of x m (is_script_dead self.now) }
         ensures bounded { result ≤ limit_of self.now }
+        ensures most { result ≤ 268435456 }
+        ensures feeds { (x : Response) (m p : List ℕ) → HasRead self.now x m
+            → length (output_so_far x (m ++ p)) ≤ length (output_so_far x m) + length x.bytes + 2 * (held_in self.now + length p) }
+        ensures ends { (x : Response) (m : List ℕ) → HasRead self.now x m
+            → length (whole_output x m) ≤ length (output_so_far x m) + length x.bytes + 2 * held_in self.now + 128 }
     {
         match self.phase {
             Phase::Holding => self.held.len(),
@@ -222,7 +247,12 @@ impl Filter {
     }
 
     /// Reads a piece of a body that is held: keeps it, or lets all go, or drops all.
-    fn feed_held<O: Sink>(&mut self, piece: &[u8], sink: &mut O) -> Result<(), WriteFault>
+    fn feed_held<O: Sink>(
+        &mut self,
+        piece: &[u8],
+        pushes: Pushes,
+        sink: &mut O,
+    ) -> Result<(), WriteFault>
         requires can { CanFeed self.old }
         requires holding { self.old.phase ≡ Phase.Holding }
         ensures delivers { (x : Response) (m : List ℕ) → HasRead self.old x m
@@ -235,7 +265,14 @@ impl Filter {
         match read_on(&mut self.decider, piece) {
             Judgement::Allowed => {
                 self.phase = Phase::Passing;
-                let put = release(&mut self.framer, &self.head, &self.held, piece, sink);
+                let put = release(
+                    &mut self.framer,
+                    &self.head,
+                    &self.held,
+                    piece,
+                    pushes,
+                    sink,
+                );
                 idle_at_fault(&mut self.phase, put)
             }
             Judgement::Blocked => {
@@ -250,7 +287,12 @@ impl Filter {
     }
 
     /// Reads a piece of a body that goes out.
-    fn feed_sent<O: Sink>(&mut self, piece: &[u8], sink: &mut O) -> Result<(), WriteFault>
+    fn feed_sent<O: Sink>(
+        &mut self,
+        piece: &[u8],
+        pushes: Pushes,
+        sink: &mut O,
+    ) -> Result<(), WriteFault>
         requires can { CanFeed self.old }
         requires sending { self.old.phase ≡ Phase.Passing }
         ensures delivers { (x : Response) (m : List ℕ) → HasRead self.old x m
@@ -261,7 +303,7 @@ impl Filter {
         ensures limit { limit_of self.new ≡ limit_of self.old }
     {
         let _judgement = read_on(&mut self.decider, piece);
-        let put = put_piece(&mut self.framer, piece, sink);
+        let put = put_piece(&mut self.framer, piece, pushes, sink);
         idle_at_fault(&mut self.phase, put)
     }
 

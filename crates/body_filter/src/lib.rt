@@ -21,3 +21,4 @@ mod writing;
 pub use filtering::Filter;
 pub use laws::{held_is_bounded, held_text_is_silent, output_grows, output_is_short};
 pub use pushing::WriteFault;
+pub use writing::Pushes;

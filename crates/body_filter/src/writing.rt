@@ -8,17 +8,31 @@ use crate::pushing::{WriteFault, put_bytes};
 use http_exchange::Framer;
 use orb_io::{Failed, Sink};
 
+/// How the chunks of a body are pushed.
+#[derive(Clone, Copy)]
+pub enum Pushes {
+    /// Some by one push.
+    Batches,
+    /// Each part of one by a push of its own, into a sink that gathers.
+    Parts,
+}
+
 /// Puts the next piece of a body.
 pub(crate) fn put_piece<O: Sink>(
     framer: &mut Framer,
     piece: &[u8],
+    pushes: Pushes,
     sink: &mut O,
 ) -> Result<(), WriteFault>
     ensures puts { Puts O.Sink result sink.old sink.new (put_of (is_chunked_by framer.old) (kept_by framer.old) piece.now) }
     ensures rest { OnOk result (kept_by framer.new ≡ kept_after (is_chunked_by framer.old) (kept_by framer.old) piece.now) }
     ensures chunked { is_chunked_by framer.new ≡ is_chunked_by framer.old }
 {
-    match framer.put(piece, sink) {
+    let put = match pushes {
+        Pushes::Batches => framer.put(piece, sink),
+        Pushes::Parts => framer.put_parts(piece, sink),
+    };
+    match put {
         Ok(()) => Ok(()),
         Err(Failed) => Err(WriteFault),
     }
@@ -40,6 +54,7 @@ pub(crate) fn release<O: Sink>(
     head: &[u8],
     held: &[u8],
     piece: &[u8],
+    pushes: Pushes,
     sink: &mut O,
 ) -> Result<(), WriteFault>
     ensures puts { Puts O.Sink result sink.old sink.new (head.now ++ (put_of (is_chunked_by framer.old) (kept_by framer.old) held.now
@@ -50,8 +65,8 @@ pub(crate) fn release<O: Sink>(
     ensures chunked { is_chunked_by framer.new ≡ is_chunked_by framer.old }
 {
     put_bytes(head, sink)?;
-    put_piece(framer, held, sink)?;
-    put_piece(framer, piece, sink)
+    put_piece(framer, held, pushes, sink)?;
+    put_piece(framer, piece, pushes, sink)
 }
 
 /// Puts a head, the body that was held and its end.
@@ -66,6 +81,6 @@ pub(crate) fn put_whole<O: Sink>(
         (kept_after (is_chunked_by framer.old) (kept_by framer.old) held.now))) }
 {
     put_bytes(head, sink)?;
-    put_piece(framer, held, sink)?;
+    put_piece(framer, held, Pushes::Batches, sink)?;
     put_last(framer, sink)
 }

@@ -1,6 +1,7 @@
 use Rattle.std.proofs.Common.{inl, inr, length, refl, sym, ap, ◌∙◌}
 use Rattle.body_filter.specs.Reads.{held_in}
 use Rattle.http_exchange.proofs.FramingLaws.{kept-length}
+use Rattle.body_filter.proofs.GrowthLemmas.{feeds-short, ends-short}
 use Rattle.body_filter.proofs.FilterLemmas.{held-holding, held-passing, held-dropping}
 use Rattle.body_filter.proofs.PhaseLemmas.{holds-of, passes-of, drops-of, idle-spent}
 use Rattle.body_filter.proofs.filtering.Filter.held.Goals as goal
@@ -33,3 +34,21 @@ returns-in-Dropping-clause-exact c = λ x m r.
       | inl is ↦ sym (held-dropping x m _ (drops-of c.args.self.now x m is r).over)
       | inr is ↦ absurd (idle-spent c.args.self.now is x m r)
     ]
+
+pub returns-in-Holding-clause-feeds : goal.returns-in-Holding-clause-feeds
+returns-in-Holding-clause-feeds c = λ x m p r. feeds-short c.args.self.now x m p r
+
+pub returns-in-Holding-clause-ends : goal.returns-in-Holding-clause-ends
+returns-in-Holding-clause-ends c = λ x m r. ends-short c.args.self.now x m r
+
+pub returns-in-Passing-clause-feeds : goal.returns-in-Passing-clause-feeds
+returns-in-Passing-clause-feeds c = λ x m p r. feeds-short c.args.self.now x m p r
+
+pub returns-in-Passing-clause-ends : goal.returns-in-Passing-clause-ends
+returns-in-Passing-clause-ends c = λ x m r. ends-short c.args.self.now x m r
+
+pub returns-in-Dropping-clause-feeds : goal.returns-in-Dropping-clause-feeds
+returns-in-Dropping-clause-feeds c = λ x m p r. feeds-short c.args.self.now x m p r
+
+pub returns-in-Dropping-clause-ends : goal.returns-in-Dropping-clause-ends
+returns-in-Dropping-clause-ends c = λ x m r. ends-short c.args.self.now x m r

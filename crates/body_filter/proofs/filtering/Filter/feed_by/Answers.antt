@@ -4,7 +4,7 @@ use Rattle.response_rules.proofs.HopelessLemmas.{hopeless-unsent}
 use Rattle.body_filter.specs.Responses.{output_so_far}
 use Rattle.body_filter.proofs.FilterLemmas.{so_far-unsent}
 use Rattle.body_filter.proofs.PhaseLemmas.{reads-dropping, drops-of}
-use Rattle.body_filter.proofs.filtering.Filter.feed.Goals as goal
+use Rattle.body_filter.proofs.filtering.Filter.feed_by.Goals as goal
 
 pub returns-in-Dropping-clause-delivers : goal.returns-in-Dropping-clause-delivers
 returns-in-Dropping-clause-delivers g c = λ x m r.
