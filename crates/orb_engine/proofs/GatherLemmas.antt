@@ -18,7 +18,8 @@ boxed given box box' before start owed more gave grew is =
 -- a box with room doesn't fail
 pub boxed-err : (b c : OutboxState) (start owed : List ℕ) (most : ℕ)
     → Gives (told_bytes b.bytes) (told_bytes c.bytes) start (λ all. IsPrefix all owed)
-    → OnlyFills b c → Rose b.faults c.faults → b.faults ≡ 0 → length b.bytes + most < outbox_room → length owed ≤ most → ⊥
+    → OnlyFills b c → Rose b.faults c.faults → b.faults ≡ 0 → length b.bytes + most < outbox_room
+    → length owed ≤ length start + most → ⊥
 boxed-err b c start owed most gives after rose no_faults room fits =
     let size : length c.bytes ≡ length b.bytes + length gives.more =
     ap length gives.gained.bytes ∙ length-append b.bytes gives.more in

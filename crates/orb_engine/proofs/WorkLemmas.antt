@@ -1,5 +1,6 @@
 -- What the two jobs put of one exchange.
-use Rattle.std.proofs.Common.{◌≡◌, ℕ, ◌+◌, ◌*◌, ◌≤◌, List, [], length, refl, sym, ap, subst, ◌∙◌, arith}
+use Rattle.std.proofs.Common.{◌≡◌, ℕ, ◌+◌, ◌*◌, ◌≤◌, List, [], ◌++◌, length, refl, sym, ap, subst, ◌∙◌, arith}
+use Rattle.body_filter.proofs.GrowthLemmas.{feeds-short, ends-short}
 use Rattle.body_filter.proofs.LawLemmas.{so_far-length, output-length}
 use Rattle.response_rules.specs.declared.deciding.Decider.{Decider}
 use Rattle.response_rules.specs.declared.verdicts.Verdict.{Verdict}
@@ -14,7 +15,7 @@ use Rattle.orb_engine.specs.declared.settings.Job.TheVariants as job
 use Rattle.orb_engine.specs.declared.worker.Worker.{Worker}
 use Rattle.orb_engine.specs.declared.worker.Worker.TheVariants as worker
 use Rattle.orb_engine.specs.Outputs.{line_of, line_by, written_so_far, written_whole}
-use Rattle.orb_engine.specs.Workers.{IsWorkerFor, WorkerReads}
+use Rattle.orb_engine.specs.Workers.{IsWorkerFor, WorkerReads, Works, held_by}
 
 pub so_far-filter : (j : Job) (x : Response) (m : List ℕ) → j ≡ job.Filter → written_so_far j x m ≡ output_so_far x m
 unfolding written_so_far
@@ -81,3 +82,34 @@ so_far-none j x = by j refl
 pub whole-most : (j : Job) (number : ℕ) (x : Response) (m : List ℕ) → j ≡ job.Filter
     → length (written_whole j number x m) ≤ length x.bytes + 2 * length m + 128
 whole-most j number x m is = omega (arith, ap length (whole-filter j number x m is), output-length x m)
+
+-- what the end writes
+pub ends-most : (s : Settings) (w : Worker) (f : Filter) (number : ℕ) (x : Response) (m : List ℕ) → w ≡ worker.Filters f → Works w s x m
+    → length (written_whole s.job number x m) ≤ length (written_so_far s.job x m) + length x.bytes + 2 * held_by w + 128
+ends-most s w f number x m is works =
+    let job = (for-filter w f s is works.is_for).0 in
+    omega (
+      arith,
+      ap held_by is,
+      ap length (so_far-filter s.job x m job),
+      ap length (whole-filter s.job number x m job),
+      ends-short f x m (reads-filter w f x m is works.reads),
+    )
+
+-- what a further piece writes
+pub feeds-most : (s : Settings) (w : Worker) (f : Filter) (x : Response) (m p : List ℕ) → w ≡ worker.Filters f → Works w s x m
+    → length (written_so_far s.job x (m ++ p)) ≤ length (written_so_far s.job x m) + length x.bytes + 2 * (held_by w + length p)
+feeds-most s w f x m p is works =
+    let job = (for-filter w f s is works.is_for).0 in
+    omega (
+      arith,
+      ap held_by is,
+      ap length (so_far-filter s.job x m job),
+      ap length (so_far-filter s.job x (m ++ p) job),
+      feeds-short f x m p (reads-filter w f x m is works.reads),
+    )
+
+pub feeds-none : (s : Settings) (w : Worker) (d : Decider) (x : Response) (m p : List ℕ) → w ≡ worker.Explains d → Works w s x m
+    → length (written_so_far s.job x (m ++ p)) ≤ length (written_so_far s.job x m) + length x.bytes + 2 * (held_by w + length p)
+feeds-none s w d x m p is works =
+    omega (arith, ap length (so_far-explain s.job x (m ++ p) (for-explain w d s is works.is_for)))

@@ -5,7 +5,7 @@ use Rattle.response_rules.specs.Facts.{AreFactsOf}
 use Rattle.response_rules.specs.Heads.{Case}
 use Rattle.response_rules.specs.Reads.{HasRead as DeciderHasRead}
 use Rattle.body_filter.specs.Responses.{Response}
-use Rattle.body_filter.specs.Reads.{HasRead as FilterHasRead, limit_of}
+use Rattle.body_filter.specs.Reads.{HasRead as FilterHasRead, limit_of, held_in}
 use Rattle.orb_engine.specs.declared.settings.Settings.{Settings}
 use Rattle.orb_engine.specs.declared.settings.Job.TheVariants as job
 use Rattle.orb_engine.specs.declared.worker.Worker.{Worker}
@@ -15,6 +15,11 @@ use Rattle.orb_engine.specs.declared.worker.Worker.TheVariants as worker
 abbrev pub IsWorkerFor : Worker → Settings → Type 0
 IsWorkerFor (worker.Filters f) s = (s.job ≡ job.Filter) × (limit_of f ≡ s.limit)
 IsWorkerFor (worker.Explains d) s = s.job ≡ job.Explain
+
+-- how many bytes of a body it holds back
+abbrev pub held_by : Worker → ℕ
+held_by (worker.Filters f) = held_in f
+held_by (worker.Explains d) = 0
 
 -- it has read this prefix of the body of the response
 abbrev pub WorkerReads : Worker → Response → List ℕ → Type 0

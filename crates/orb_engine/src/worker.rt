@@ -8,7 +8,7 @@ ghost use Rattle.body_filter.specs.Responses.{Response, response_of};
 
 use crate::lines::line;
 use crate::settings::{Job, Settings};
-use body_filter::{Filter, WriteFault};
+use body_filter::{Filter, Pushes, WriteFault};
 use orb_io::{NoMemory, Sink};
 use response_rules::{Decider, Facts, Verdict};
 use std::alloc::Global;
@@ -26,7 +26,7 @@ impl Worker {
     ghost use Rattle.std.specs.Prelude.{IfOk};
     ghost use Rattle.orb_engine.specs.declared.settings.Settings.{Settings};
     ghost use Rattle.orb_engine.specs.Outputs.{written_so_far, written_whole};
-    ghost use Rattle.orb_engine.specs.Workers.{IsWorkerFor, AreFactsFor, Works};
+    ghost use Rattle.orb_engine.specs.Workers.{IsWorkerFor, AreFactsFor, Works, held_by};
 
     /// One that does the job of the settings.
     pub(crate) fn open(alloc: Global, settings: Settings) -> Result<Worker, NoMemory>
@@ -69,8 +69,13 @@ impl Worker {
         }
     }
 
-    /// Reads the next piece of its body.
-    pub(crate) fn feed<O: Sink>(&mut self, body: &[u8], sink: &mut O) -> Result<(), WriteFault>
+    /// Reads the next piece of its body, and pushes chunks in this way.
+    pub(crate) fn feed<O: Sink>(
+        &mut self,
+        body: &[u8],
+        pushes: Pushes,
+        sink: &mut O,
+    ) -> Result<(), WriteFault>
         requires { (s : Settings) × (x : Response) × (m : List ℕ) × Works self.old s x m }
         ensures delivers { (s : Settings) (x : Response) (m : List ℕ) → Works self.old s x m
             → Delivers result (O.told sink.old) (O.told sink.new)
@@ -80,7 +85,7 @@ impl Worker {
         ensures worker { (s : Settings) → IsWorkerFor self.old s → IsWorkerFor self.new s }
     {
         match self {
-            Worker::Filters(filter) => filter.feed(body, sink),
+            Worker::Filters(filter) => filter.feed_by(body, pushes, sink),
             Worker::Explains(decider) => {
                 let _progress = decider.feed(body);
                 Ok(())
@@ -100,7 +105,7 @@ impl Worker {
             → Delivers result (O.told sink.old) (O.told sink.new)
             (written_so_far s.job x m) (written_whole s.job number x m) (λ v. IsVerdict x.judged m v) }
         ensures short { (s : Settings) (x : Response) (m : List ℕ) → Works self.old s x m → size ≡ length m
-            → length (written_whole s.job number x m) ≤ length x.bytes + 2 * length m + 128 }
+            → length (written_whole s.job number x m) ≤ length (written_so_far s.job x m) + length x.bytes + 2 * held_by self.old + 128 }
         ensures calls { Calls O.Sink result sink.old sink.new }
         ensures worker { (s : Settings) → IsWorkerFor self.old s → IsWorkerFor self.new s }
     {
@@ -113,6 +118,20 @@ impl Worker {
                     Err(_) => Err(WriteFault),
                 }
             }
+        }
+    }
+
+    /// How many bytes of its body are held back. A further piece writes at most the head, and twice what is held and the
+    /// piece.
+    pub(crate) fn held(&self) -> usize
+        ensures value { result ≡ held_by self.now }
+        ensures most { result ≤ 268435456 }
+        ensures feeds { (s : Settings) (x : Response) (m p : List ℕ) → Works self.now s x m
+            → length (written_so_far s.job x (m ++ p)) ≤ length (written_so_far s.job x m) + length x.bytes + 2 * (held_by self.now + length p) }
+    {
+        match self {
+            Worker::Filters(filter) => filter.held(),
+            Worker::Explains(_) => 0,
         }
     }
 }

@@ -1,7 +1,7 @@
 //! The work on one response, with what it writes gathered.
 //!
-//! What a response writes goes to the outbox while all that it can write fits there, and else to the sink
-//! itself, after what was gathered: so short exchanges go out many in one push, and a long body goes
+//! What a piece of a response can let out goes to the outbox where it fits there, and else to the sink itself, after
+//! what was gathered: so short exchanges, and the chunks of a pull, go out many in one push, and a long piece of a body goes
 //! straight through.
 ghost use Rattle.std.specs.Prelude.{◌≡◌, ◌≤◌, ◌+◌, ◌*◌, ◌^◌, ◌++◌, ℕ, List, [], length};
 ghost use Rattle.orb_io.specs.Told.{Gives, Delivers};
@@ -14,7 +14,7 @@ ghost use Rattle.body_filter.specs.Responses.{Response, response_of};
 
 use crate::settings::Settings;
 use crate::worker::Worker;
-use body_filter::WriteFault;
+use body_filter::{Pushes, WriteFault};
 use orb_io::{Failed, NoMemory, Outbox, Sink, push_nonempty};
 use response_rules::{Facts, Verdict};
 use std::alloc::Global;
@@ -38,7 +38,7 @@ impl Writer {
     ghost use Rattle.orb_engine.specs.declared.settings.Settings.{Settings};
     ghost use Rattle.orb_io.specs.Outboxes.{empty_outbox};
     ghost use Rattle.orb_engine.specs.Outputs.{written_so_far, written_whole};
-    ghost use Rattle.orb_engine.specs.Workers.{AreFactsFor};
+    ghost use Rattle.orb_engine.specs.Workers.{AreFactsFor, Works, held_by};
     ghost use Rattle.orb_engine.specs.Writing.{IsWriterFor, WriterReads, CanGoOn, Passes, IsSameBut, box_of, gathered_by, body_of};
 
     /// One whose worker does the job of the settings.
@@ -126,14 +126,14 @@ impl Writer {
         ensures settings { self.new.settings ≡ self.old.settings }
     {
         self.body += body.len() as u64;
-        if self.outbox.has_room(self.most()) {
-            match self.worker.feed(body, &mut self.outbox) {
+        if self.outbox.has_room(self.most(body.len())) {
+            match self.worker.feed(body, Pushes::Parts, &mut self.outbox) {
                 Ok(()) => Ok(()),
                 Err(_) => unreachable!(),
             }
         } else {
             match self.flush(output) {
-                Ok(()) => self.worker.feed(body, output),
+                Ok(()) => self.worker.feed(body, Pushes::Batches, output),
                 Err(fault) => Err(fault),
             }
         }
@@ -153,7 +153,7 @@ impl Writer {
         ensures calls { Calls O.Sink result output.old output.new }
         ensures settings { self.new.settings ≡ self.old.settings }
     {
-        if self.outbox.has_room(self.most()) {
+        if self.outbox.has_room(self.most(0)) {
             match self.worker.end(number, self.body, &mut self.outbox) {
                 Ok(verdict) => Ok(verdict),
                 Err(_) => unreachable!(),
@@ -166,12 +166,14 @@ impl Writer {
         }
     }
 
-    /// More bytes than the response and what stands in its place can have.
-    fn most(&self) -> u64
+    /// The most bytes that a piece of this length can let out, and the end of the response after it.
+    fn most(&self, piece: usize) -> u64
         requires head { self.now.head ≤ 65536 }
-        requires body { self.now.body ≤ 2 ^ 62 }
-        ensures { result ≡ self.now.head + 2 * self.now.body + 128 }
+        requires few { piece ≤ 2 ^ 62 }
+        ensures value { result ≡ self.now.head + 2 * (held_by self.now.worker + piece) + 128 }
+        ensures feeds { (s : Settings) (x : Response) (m p : List ℕ) → Works self.now.worker s x m → self.now.head ≡ length x.bytes
+            → length p ≡ piece → length (written_so_far s.job x (m ++ p)) ≤ length (written_so_far s.job x m) + result }
     {
-        self.head + 2 * self.body + 128
+        self.head + 2 * (self.worker.held() as u64 + piece as u64) + 128
     }
 }

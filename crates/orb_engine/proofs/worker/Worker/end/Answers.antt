@@ -2,7 +2,7 @@ use Rattle.std.proofs.Common.{◌++◌, length, ap, ◌∙◌, arith}
 use Rattle.orb_io.proofs.GivesLemmas.{Gives-of, Delivers-fault, Delivers-as}
 use Rattle.body_filter.specs.Responses.{output_so_far, whole_output}
 use Rattle.orb_engine.specs.Outputs.{written_so_far, written_whole}
-use Rattle.orb_engine.proofs.WorkLemmas.{for-filter, for-explain, reads-filter, reads-explain, so_far-filter, so_far-explain, whole-filter, whole-most, line-written}
+use Rattle.orb_engine.proofs.WorkLemmas.{for-filter, for-explain, reads-filter, reads-explain, so_far-filter, so_far-explain, whole-filter, ends-most, line-written}
 use Rattle.orb_engine.proofs.worker.Worker.end.Goals as goal
 
 pub returns-in-Filters-clause-delivers : goal.returns-in-Filters-clause-delivers
@@ -36,7 +36,7 @@ returns-in-Err-clause-delivers g c = λ s x m works size.
 
 pub returns-in-Filters-clause-short : goal.returns-in-Filters-clause-short
 returns-in-Filters-clause-short g c = λ s x m works size.
-    whole-most s.job c.args.number x m (for-filter c.args.self.now _ s c.in-Filters.is works.is_for).0
+    ends-most s c.args.self.now _ c.args.number x m c.in-Filters.is works
 
 pub returns-in-Ok-clause-short : goal.returns-in-Ok-clause-short
 returns-in-Ok-clause-short g c = λ s x m works size.

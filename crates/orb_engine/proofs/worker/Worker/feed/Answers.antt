@@ -9,10 +9,10 @@ pub returns-in-Filters-clause-delivers : goal.returns-in-Filters-clause-delivers
 returns-in-Filters-clause-delivers g c = λ s x m works.
     let it = for-filter c.args.self.now _ s c.in-Filters.is works.is_for in
     let longer = m ++ c.args.body.now in
-    Delivers-as _ _ c.feed.result (output_so_far x m) (written_so_far s.job x m) (output_so_far x longer) (written_so_far s.job x longer) _ _
+    Delivers-as _ _ c.feed_by.result (output_so_far x m) (written_so_far s.job x m) (output_so_far x longer) (written_so_far s.job x longer) _ _
     (so_far-filter s.job x m it.0) (so_far-filter s.job x longer it.0)
-    (λ _ reads. record { is_for = (it.0, c.feed.ensures.limit ∙ it.1); reads = reads })
-    (c.feed.ensures.delivers x m (reads-filter c.args.self.now _ x m c.in-Filters.is works.reads))
+    (λ _ reads. record { is_for = (it.0, c.feed_by.ensures.limit ∙ it.1); reads = reads })
+    (c.feed_by.ensures.delivers x m (reads-filter c.args.self.now _ x m c.in-Filters.is works.reads))
 
 pub returns-in-Explains-clause-delivers : goal.returns-in-Explains-clause-delivers
 returns-in-Explains-clause-delivers g c = λ s x m works.

@@ -1,4 +1,4 @@
-use Rattle.std.proofs.Common.{[], ◌++◌, length, refl, sym, ap, subst, ◌∙◌}
+use Rattle.std.proofs.Common.{[], ◌++◌, length, refl, sym, ap, subst, ◌∙◌, arith}
 use Rattle.std.proofs.lemmas.List.{append-nil}
 use Rattle.orb_io.proofs.ToldLemmas.{IsPrefix-none}
 use Rattle.orb_io.proofs.GivesLemmas.{Gives-none, Gives-weaker, Gives-then}
@@ -18,7 +18,7 @@ unreachable-requires g c =
     let x = response_of h c.args.head.now c.args.chunked in
     boxed-err (box_of c.args.self.now) c.begin.new.sink [] (written_so_far s.job x []) (length c.args.head.now)
     (c.in-Err.ensures.delivers s h is_for.worker new) c.in-Err.ensures.calls.keeps c.in-Err.ensures.calls.cause is_for.no_faults
-    (c.has_room.ensures.0 c.if-has_room.true) (so_far-none s.job x)
+    (c.has_room.ensures.0 c.if-has_room.true) (omega (arith, so_far-none s.job x))
 
 pub returns-in-Ok-clause-passes : goal.returns-in-Ok-clause-passes
 returns-in-Ok-clause-passes g c = λ s h given is_for new.

@@ -18,7 +18,7 @@ unreachable-requires g c =
     boxed-err (box_of c.args.self.now) c.end.new.sink (written_so_far s.job x m) (written_whole s.job c.args.number x m) c.most.result
     (c.in-Err.ensures.delivers s x m reads.works reads.body) c.in-Err.ensures.calls.keeps c.in-Err.ensures.calls.cause reads.no_faults
     (c.has_room.ensures.0 c.if-has_room.true)
-    (omega (arith, c.in-Err.ensures.short s x m reads.works reads.body, c.most.ensures, reads.head, reads.body))
+    (omega (arith, c.in-Err.ensures.short s x m reads.works reads.body, c.most.ensures.value, reads.head))
 
 pub returns-in-Ok-clause-passes : goal.returns-in-Ok-clause-passes
 returns-in-Ok-clause-passes g c = λ s x m given before reads gave.

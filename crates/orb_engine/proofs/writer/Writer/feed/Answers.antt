@@ -1,4 +1,4 @@
-use Rattle.std.proofs.Common.{◌++◌, length-append, sym, ap, subst, ◌∙◌, arith}
+use Rattle.std.proofs.Common.{◌++◌, length-append, refl, sym, ap, subst, ◌∙◌, arith}
 use Rattle.orb_io.proofs.GivesLemmas.{Gives-none, Gives-weaker, Gives-then}
 use Rattle.orb_engine.specs.declared.worker.Worker.{Worker}
 use Rattle.orb_io.specs.Outboxes.{OutboxState}
@@ -6,7 +6,6 @@ use Rattle.orb_engine.specs.Outputs.{written_so_far}
 use Rattle.orb_engine.specs.Workers.{Works}
 use Rattle.orb_engine.specs.Writing.{box_of, gathered_by}
 use Rattle.orb_engine.proofs.OutputLaws.{written_so_far-grows}
-use Rattle.orb_engine.proofs.WorkLemmas.{so_far-most}
 use Rattle.orb_engine.proofs.GatherLemmas.{boxed, boxed-err, direct, flush-broken}
 use Rattle.orb_engine.proofs.writer.Writer.feed.Goals as goal
 
@@ -19,7 +18,7 @@ unreachable-requires g c =
     boxed-err (box_of c.args.self.now) c.feed.new.sink (written_so_far s.job x m) (written_so_far s.job x (m ++ c.args.body.now)) c.most.result
     (c.in-Err.ensures.delivers s x m reads.works) c.in-Err.ensures.calls.keeps c.in-Err.ensures.calls.cause reads.no_faults
     (c.has_room.ensures.0 c.if-has_room.true)
-    (omega (arith, so_far-most s.job x (m ++ c.args.body.now), length-append m c.args.body.now, c.most.ensures, reads.head, reads.body))
+    (c.most.ensures.feeds s x m c.args.body.now reads.works reads.head refl)
 
 pub returns-in-Ok-clause-passes : goal.returns-in-Ok-clause-passes
 returns-in-Ok-clause-passes g c = λ s x m given before reads gave.
