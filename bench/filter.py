@@ -1,10 +1,10 @@
-"""The table of bench/filter.sh: filter.py PROGRAM RECORDING."""
+"""The tables of bench/filter.sh: filter.py PROGRAM RECORDING [OTHER]."""
 
 import sys
 
 from measure import OPAQUE, best_seconds, peak_kilobytes, print_head, print_row, response, write_recording
 
-PROGRAM, RECORDING = sys.argv[1:]
+PROGRAM, RECORDING, *OTHER = sys.argv[1:]
 TOTAL = 100_000_000
 ROUNDS = 9
 CONSENT = b"GET / HTTP/1.1\r\nSec-Fetch-Mode: cors\r\nSec-Fetch-Site: cross-site\r\n\r\n"
@@ -37,15 +37,37 @@ KINDS = {
     "styles of 64 bytes": [OPAQUE + response(b"Content-Type: text/css\r\n", b"s" * 64)],
 }
 
-print_head(
-    "Recording", "`filter` MB/s", "`explain` MB/s", "`dd bs=8192` MB/s", "`cat` MB/s",
-    "exchanges/s", "`filter` kB", "`explain` kB",
-)
-for name, exchanges in KINDS.items():
-    size, count = write_recording(RECORDING, exchanges, TOTAL)
-    programs = [[PROGRAM, "filter"], [PROGRAM, "explain"], ["dd", "bs=8192", "status=none"], ["cat"]]
-    times = best_seconds(programs, RECORDING, ROUNDS)
-    row = [name] + ["%.0f" % (size / 1e6 / each) for each in times]
-    row += ["%.0f" % (count / times[0])]
-    row += [peak_kilobytes(words, RECORDING) for words in programs[:2]]
-    print_row(row)
+DD = ["dd", "bs=8192", "status=none"]
+
+
+def one_program():
+    print_head(
+        "Recording", "`filter` MB/s", "`explain` MB/s", "`dd bs=8192` MB/s", "`cat` MB/s",
+        "exchanges/s", "`filter` kB", "`explain` kB",
+    )
+    for name, exchanges in KINDS.items():
+        size, count = write_recording(RECORDING, exchanges, TOTAL)
+        programs = [[PROGRAM, "filter"], [PROGRAM, "explain"], DD, ["cat"]]
+        times = best_seconds(programs, RECORDING, ROUNDS)
+        row = [name] + ["%.0f" % (size / 1e6 / each) for each in times]
+        row += ["%.0f" % (count / times[0])]
+        row += [peak_kilobytes(words, RECORDING) for words in programs[:2]]
+        print_row(row)
+
+
+def two_programs(other):
+    print_head(
+        "Recording", "`filter` MB/s", "the other", "`explain` MB/s", "the other", "`dd bs=8192` MB/s", "`filter` of `dd`",
+    )
+    for name, exchanges in KINDS.items():
+        size, _ = write_recording(RECORDING, exchanges, TOTAL)
+        programs = [[PROGRAM, "filter"], [other, "filter"], [PROGRAM, "explain"], [other, "explain"], DD]
+        times = best_seconds(programs, RECORDING, ROUNDS)
+        row = [name] + ["%.0f" % (size / 1e6 / each) for each in times]
+        print_row(row + ["%.2f" % (times[-1] / times[0])])
+
+
+if OTHER:
+    two_programs(*OTHER)
+else:
+    one_program()
