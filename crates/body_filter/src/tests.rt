@@ -394,17 +394,18 @@ fn chunks_go_out_eight_by_a_push(rt: HostRuntime) -> Result<(), Fail> {
     Ok(())
 }
 
+/// The push that fails, the room of the sink, and what it got.
+const FAULTS: [(u64, usize, &[u8]); 4] = [
+    (0, 64, b""),
+    (1, 64, HEAD),
+    (2, 64, b"HTTP/1.1 200 OK\r\n\r\nabcd"),
+    (9, 25, b"HTTP/1.1 200 OK\r\n\r\nabcdef"),
+];
+
 #[test]
 fn a_fault_leaves_a_prefix_and_a_filter_that_begins_anew(rt: HostRuntime) -> Result<(), Fail> {
     let alloc = rt.alloc();
-    // the push that fails, the room of the sink, and what it got
-    let rows: [(u64, usize, &[u8]); 4] = [
-        (0, 64, b""),
-        (1, 64, HEAD),
-        (2, 64, b"HTTP/1.1 200 OK\r\n\r\nabcd"),
-        (9, 25, b"HTTP/1.1 200 OK\r\n\r\nabcdef"),
-    ];
-    for (fails, room, want) in rows {
+    for (fails, room, want) in FAULTS {
         let mut filter = Filter::open(alloc, LIMIT)?;
         let mut sink = MemorySink::open(alloc, room, [fails].to_vec(alloc)?)?;
         let first = pass(

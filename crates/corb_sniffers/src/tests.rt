@@ -75,61 +75,67 @@ fn tags_are_taken_in_either_case(rt: HostRuntime) {
     }
 }
 
+/// A window, and whether it is sniffed as XML.
+const DECLARATIONS: [(&[u8], bool); 6] = [
+    (b"<?xml version=", true),
+    (b" \t\n\x0c\r<?xml", true),
+    (b"<?xm", false),
+    (b"<?XML", false),
+    (b"<!-- --><?xml", false),
+    (b"", false),
+];
+
 #[test]
 fn xml_begins_with_its_declaration(rt: HostRuntime) {
-    let rows: [(&[u8], bool); 6] = [
-        (b"<?xml version=", true),
-        (b" \t\n\x0c\r<?xml", true),
-        (b"<?xm", false),
-        (b"<?XML", false),
-        (b"<!-- --><?xml", false),
-        (b"", false),
-    ];
-    for (window, sniffs) in rows {
+    for (window, sniffs) in DECLARATIONS {
         assert_eq!(rt; sniffs_xml(window), sniffs, "{window:?}");
     }
 }
 
+/// A window, and whether it is sniffed as JSON.
+const OBJECTS: [(&[u8], bool); 14] = [
+    (b"{\"a\" : 1}", true),
+    (b"{\"a\\\"b\":", true),
+    (b" \t\n\r{\r\"\"\t:", true),
+    (b"\x0c{\"a\":", false),
+    (b"{\"\xff\x7f\\\\\\\xff\":", true),
+    (b"{\"a\x1f\":", false),
+    (b"{\"a\\\x1f\":", false),
+    (b"{\"a\\\"", false),
+    (b"{\"a\"", false),
+    (b"{\"a\\", false),
+    (b"{a:", false),
+    (b"{'a':", false),
+    (b"[{\"a\":", false),
+    (b"", false),
+];
+
 #[test]
 fn objects_begin_with_a_name_and_a_colon(rt: HostRuntime) {
-    let rows: [(&[u8], bool); 14] = [
-        (b"{\"a\" : 1}", true),
-        (b"{\"a\\\"b\":", true),
-        (b" \t\n\r{\r\"\"\t:", true),
-        (b"\x0c{\"a\":", false),
-        (b"{\"\xff\x7f\\\\\\\xff\":", true),
-        (b"{\"a\x1f\":", false),
-        (b"{\"a\\\x1f\":", false),
-        (b"{\"a\\\"", false),
-        (b"{\"a\"", false),
-        (b"{\"a\\", false),
-        (b"{a:", false),
-        (b"{'a':", false),
-        (b"[{\"a\":", false),
-        (b"", false),
-    ];
-    for (window, sniffs) in rows {
+    for (window, sniffs) in OBJECTS {
         assert_eq!(rt; sniffs_json(window), sniffs, "{window:?}");
     }
 }
 
+/// A window, and whether it has a parser breaker.
+const BROKEN: [(&[u8], bool); 12] = [
+    (b")]}'", true),
+    (b"{}&&", true),
+    (b"{} &&", true),
+    (b"for(;;);", true),
+    (b"while(1);", true),
+    (b" \t\n\x0c\r                    )]}'\n", true),
+    (b")]}", false),
+    (b"{}  &&", false),
+    (b"for(;;)", false),
+    (b"WHILE(1);", false),
+    (b"\x0bfor(;;);", false),
+    (b"", false),
+];
+
 #[test]
 fn breakers_stand_after_white_space(rt: HostRuntime) {
-    let rows: [(&[u8], bool); 12] = [
-        (b")]}'", true),
-        (b"{}&&", true),
-        (b"{} &&", true),
-        (b"for(;;);", true),
-        (b"while(1);", true),
-        (b" \t\n\x0c\r                    )]}'\n", true),
-        (b")]}", false),
-        (b"{}  &&", false),
-        (b"for(;;)", false),
-        (b"WHILE(1);", false),
-        (b"\x0bfor(;;);", false),
-        (b"", false),
-    ];
-    for (window, breaks) in rows {
+    for (window, breaks) in BROKEN {
         assert_eq!(rt; has_breaker(window), breaks, "{window:?}");
     }
 }

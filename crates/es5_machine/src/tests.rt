@@ -195,39 +195,43 @@ fn scripts_are_told_in_pieces(rt: HostRuntime) -> Result<(), Fail> {
     Ok(())
 }
 
+/// Bytes, and whether they are a script.
+const BYTES: [(&[u8], bool); 10] = [
+    (b"\xEF\xBB\xBFa=1", true),
+    (b"\xEF\xBB", false),
+    (b"a=\"\xFF\"", true),
+    (b"a=\xFF", false),
+    (b"a\xE2\x80\xA8b", true),
+    (b"a\xE2\x80", false),
+    (b"a//\xE2\x80", true),
+    (b"\"\xE2\x80\xA8\"", false),
+    (b"\xD0\xB0=\xD0\xB0/1", true),
+    (b"{\"a\":1}", false),
+];
+
 #[test]
 fn bytes_are_scripts_by_their_characters(rt: HostRuntime) {
-    let rows: [(&[u8], bool); 10] = [
-        (b"\xEF\xBB\xBFa=1", true),
-        (b"\xEF\xBB", false),
-        (b"a=\"\xFF\"", true),
-        (b"a=\xFF", false),
-        (b"a\xE2\x80\xA8b", true),
-        (b"a\xE2\x80", false),
-        (b"a//\xE2\x80", true),
-        (b"\"\xE2\x80\xA8\"", false),
-        (b"\xD0\xB0=\xD0\xB0/1", true),
-        (b"{\"a\":1}", false),
-    ];
-    for (bytes, want) in rows {
+    for (bytes, want) in BYTES {
         for size in [1, 100] {
             assert_eq!(rt; is_script(bytes, size), want, "{bytes:?} by {size}");
         }
     }
 }
 
+/// Bytes, and whether a test is dead after them.
+const DEATHS: [(&[u8], bool); 7] = [
+    (b"", false),
+    (b"a b", false),
+    (b"a b ", true),
+    (b"a=\"\n", true),
+    (b"/*", false),
+    (b"@", true),
+    (b"[1,2]}\n", true),
+];
+
 #[test]
 fn a_test_is_dead_for_good(rt: HostRuntime) {
-    let rows: [(&[u8], bool); 7] = [
-        (b"", false),
-        (b"a b", false),
-        (b"a b ", true),
-        (b"a=\"\n", true),
-        (b"/*", false),
-        (b"@", true),
-        (b"[1,2]}\n", true),
-    ];
-    for (bytes, dead) in rows {
+    for (bytes, dead) in DEATHS {
         let mut test = ScriptTest::new();
         test.feed(bytes);
         assert_eq!(rt; test.is_dead(), dead, "{bytes:?}");

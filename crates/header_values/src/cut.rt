@@ -24,27 +24,29 @@ pub fn one_cut()
 mod tests {
     use super::*;
 
+    /// A value, and its parts.
+    const VALUES: [(&str, &[&str]); 13] = [
+        (
+            "text/html;x=\"a,b, c\", text/css",
+            &["text/html;x=\"a,b, c\"", "text/css"],
+        ),
+        ("", &[""]),
+        (",", &["", ""]),
+        ("a,\"b,", &["a", "\"b,"]),
+        ("nosniff,", &["nosniff", ""]),
+        ("text/html;\", x/x", &["text/html;\", x/x"]),
+        ("x/x;test=\"hi\", y/y", &["x/x;test=\"hi\"", "y/y"]),
+        ("x/x;test=\"hi\",y/y", &["x/x;test=\"hi\"", "y/y"]),
+        ("x,,,1", &["x", "", "", "1"]),
+        ("\"1,2\", 3", &["\"1,2\"", "3"]),
+        (" \ta \t, b\t", &["a", "b"]),
+        ("\"a\\\",b\",c", &["\"a\\\",b\"", "c"]),
+        ("a\"b\\", &["a\"b\\"]),
+    ];
+
     #[test]
     fn commas_outside_of_strings_cut(rt: HostRuntime) {
-        let rows: [(&str, &[&str]); 13] = [
-            (
-                "text/html;x=\"a,b, c\", text/css",
-                &["text/html;x=\"a,b, c\"", "text/css"],
-            ),
-            ("", &[""]),
-            (",", &["", ""]),
-            ("a,\"b,", &["a", "\"b,"]),
-            ("nosniff,", &["nosniff", ""]),
-            ("text/html;\", x/x", &["text/html;\", x/x"]),
-            ("x/x;test=\"hi\", y/y", &["x/x;test=\"hi\"", "y/y"]),
-            ("x/x;test=\"hi\",y/y", &["x/x;test=\"hi\"", "y/y"]),
-            ("x,,,1", &["x", "", "", "1"]),
-            ("\"1,2\", 3", &["\"1,2\"", "3"]),
-            (" \ta \t, b\t", &["a", "b"]),
-            ("\"a\\\",b\",c", &["\"a\\\",b\"", "c"]),
-            ("a\"b\\", &["a\"b\\"]),
-        ];
-        for (value, expected) in rows {
+        for (value, expected) in VALUES {
             let mut rest = parts(value.as_bytes());
             for part in expected {
                 assert!(rt; rest.next() == Some(part.as_bytes()), "{value}");

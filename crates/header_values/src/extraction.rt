@@ -133,19 +133,21 @@ mod tests {
     use crate::examples::Head;
     use std::test::Fail;
 
+    /// Two values of Content-Type, and the type and subtype that they state.
+    const ESSENCES: [(&str, &str, Option<(&str, &str)>); 8] = [
+        ("text/html;x=\"a,b", "c\", text/css", Some(("text", "css"))),
+        ("text/html;charset=gbk", "text/html", Some(("text", "html"))),
+        ("text/HTML", "*/*", Some(("text", "HTML"))),
+        ("text/html, text", "/", Some(("text", "html"))),
+        ("text/html", "*/html", Some(("*", "html"))),
+        ("*/*", "", None),
+        ("text", "html", None),
+        ("", "", None),
+    ];
+
     #[test]
     fn last_part_gives_the_essence(rt: HostRuntime) -> Result<(), Fail> {
-        let rows: [(&str, &str, Option<(&str, &str)>); 8] = [
-            ("text/html;x=\"a,b", "c\", text/css", Some(("text", "css"))),
-            ("text/html;charset=gbk", "text/html", Some(("text", "html"))),
-            ("text/HTML", "*/*", Some(("text", "HTML"))),
-            ("text/html, text", "/", Some(("text", "html"))),
-            ("text/html", "*/html", Some(("*", "html"))),
-            ("*/*", "", None),
-            ("text", "html", None),
-            ("", "", None),
-        ];
-        for (first, second, expected) in rows {
+        for (first, second, expected) in ESSENCES {
             let head = Head::of(
                 rt.alloc(),
                 &[

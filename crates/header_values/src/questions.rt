@@ -54,17 +54,19 @@ mod tests {
     use crate::examples::Head;
     use std::test::Fail;
 
+    /// A value, and whether it states nosniff.
+    const NOSNIFF: [(&str, bool); 6] = [
+        ("NoSniff, x", true),
+        ("x, nosniff", false),
+        ("nosniff", true),
+        (", nosniff", false),
+        ("nosniff;", false),
+        ("", false),
+    ];
+
     #[test]
     fn first_part_decides_on_sniffing(rt: HostRuntime) -> Result<(), Fail> {
-        let rows = [
-            ("NoSniff, x", true),
-            ("x, nosniff", false),
-            ("nosniff", true),
-            (", nosniff", false),
-            ("nosniff;", false),
-            ("", false),
-        ];
-        for (value, expected) in rows {
+        for (value, expected) in NOSNIFF {
             let head = Head::of(rt.alloc(), &[("X-CONTENT-type-options", value)])?;
             let fields = head.fields()?;
             let mut scratch = Scratch::open(rt.alloc(), fields.head.len())?;
@@ -74,17 +76,19 @@ mod tests {
         Ok(())
     }
 
+    /// A value, and whether it codes the body.
+    const CODINGS: [(&str, bool); 6] = [
+        ("gzip", true),
+        ("identity, br", true),
+        ("identity", false),
+        ("IDENTITY , Identity", false),
+        (" , ,", false),
+        ("", false),
+    ];
+
     #[test]
     fn any_coding_codes(rt: HostRuntime) -> Result<(), Fail> {
-        let rows = [
-            ("gzip", true),
-            ("identity, br", true),
-            ("identity", false),
-            ("IDENTITY , Identity", false),
-            (" , ,", false),
-            ("", false),
-        ];
-        for (value, expected) in rows {
+        for (value, expected) in CODINGS {
             let head = Head::of(rt.alloc(), &[("Content-Encoding", value)])?;
             let fields = head.fields()?;
             let mut scratch = Scratch::open(rt.alloc(), fields.head.len())?;

@@ -68,6 +68,16 @@ mod tests {
     use crate::examples::Head;
     use std::test::Fail;
 
+    /// A name, and the values of its fields, joined.
+    const JOINED: [(&str, Option<&str>); 6] = [
+        ("a", Some("x,  y,")),
+        ("A", Some("x,  y,")),
+        ("B", Some("")),
+        ("c", Some(", ")),
+        ("", None),
+        ("abc", None),
+    ];
+
     #[test]
     fn values_of_a_name_are_joined(rt: HostRuntime) -> Result<(), Fail> {
         let head = Head::of(
@@ -83,15 +93,7 @@ mod tests {
         )?;
         let fields = head.fields()?;
         let mut scratch = Scratch::open(rt.alloc(), fields.head.len())?;
-        let rows: [(&str, Option<&str>); 6] = [
-            ("a", Some("x,  y,")),
-            ("A", Some("x,  y,")),
-            ("B", Some("")),
-            ("c", Some(", ")),
-            ("", None),
-            ("abc", None),
-        ];
-        for (name, joined) in rows {
+        for (name, joined) in JOINED {
             let found = scratch.join(&fields, name.as_bytes());
             assert!(rt; found == joined.map(|text| text.as_bytes()), "{name}");
         }

@@ -94,21 +94,23 @@ fn requests_are_read_or_refused_in_their_order(rt: HostRuntime) -> Result<(), Fa
     Ok(())
 }
 
+/// A request head, and its method, its target and how many fields it has.
+const PARTS: [(&[u8], Option<(&[u8], &[u8], usize)>); 4] = [
+    (
+        b"\r\nPUT http://a/?b HTTP/1.0\r\nC:d\r\nE:\r\n\r\n",
+        Some((b"PUT", b"http://a/?b", 2)),
+    ),
+    (
+        b"GET * HTTP/1.1\r\nContent-Length: 1\r\n\r\n",
+        Some((b"GET", b"*", 1)),
+    ),
+    (b"GET * HTTP/1.1\r\n\r\n\r\n", None),
+    (b"GET\r\n\r\n", None),
+];
+
 #[test]
 fn the_parts_of_a_request_are_given(rt: HostRuntime) {
-    let rows: [(&[u8], Option<(&[u8], &[u8], usize)>); 4] = [
-        (
-            b"\r\nPUT http://a/?b HTTP/1.0\r\nC:d\r\nE:\r\n\r\n",
-            Some((b"PUT", b"http://a/?b", 2)),
-        ),
-        (
-            b"GET * HTTP/1.1\r\nContent-Length: 1\r\n\r\n",
-            Some((b"GET", b"*", 1)),
-        ),
-        (b"GET * HTTP/1.1\r\n\r\n\r\n", None),
-        (b"GET\r\n\r\n", None),
-    ];
-    for (head, owed) in rows {
+    for (head, owed) in PARTS {
         let mut spans = ArrayVec::new();
         let parts = match request_parts(head, &mut spans) {
             Some(parts) => Some((parts.method, parts.target, parts.fields.spans.len())),
@@ -211,14 +213,16 @@ fn response_head(alloc: Global, fields: usize, value: usize) -> Result<Vec<u8>, 
     Ok(head)
 }
 
+/// How many fields a head has, the length of the first value, and what reading it gives.
+const LIMITS: [(usize, usize, Result<BodyFrame, BadKind>); 3] = [
+    (128, 1, Ok(BodyFrame::ToEnd)),
+    (129, 1, Err(BadKind::BadHead)),
+    (1, 65_512, Ok(BodyFrame::ToEnd)),
+];
+
 #[test]
 fn heads_are_read_up_to_their_limits(rt: HostRuntime) -> Result<(), Fail> {
-    let cases = [
-        (128, 1, Ok(BodyFrame::ToEnd)),
-        (129, 1, Err(BadKind::BadHead)),
-        (1, 65_512, Ok(BodyFrame::ToEnd)),
-    ];
-    for (fields, value, owed) in cases {
+    for (fields, value, owed) in LIMITS {
         let head = response_head(rt.alloc(), fields, value)?;
         assert_eq!(rt; head_end(&head), Some(head.len()));
         let mut scratch = Scratch::open(rt.alloc(), head.len())?;

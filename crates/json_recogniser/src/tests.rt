@@ -247,23 +247,25 @@ fn arrays_beside_one_another_are_no_levels(rt: HostRuntime) -> Result<(), Fail> 
     Ok(())
 }
 
+/// Bytes, and whether a test is dead after them.
+const DEATHS: [(&[u8], bool); 12] = [
+    (b"", false),
+    (b"[1,", false),
+    (b"{\"a\\u00", false),
+    (b"tru", false),
+    (b"1 ", false),
+    (b"01", true),
+    (b"truE", true),
+    (b"[1,]", true),
+    (b"{1", true),
+    (b"\"\x1f", true),
+    (b"\"\\u00g", true),
+    (b"[]]", true),
+];
+
 #[test]
 fn a_test_is_dead_once_nothing_can_follow(rt: HostRuntime) {
-    let rows: [(&[u8], bool); 12] = [
-        (b"", false),
-        (b"[1,", false),
-        (b"{\"a\\u00", false),
-        (b"tru", false),
-        (b"1 ", false),
-        (b"01", true),
-        (b"truE", true),
-        (b"[1,]", true),
-        (b"{1", true),
-        (b"\"\x1f", true),
-        (b"\"\\u00g", true),
-        (b"[]]", true),
-    ];
-    for (bytes, dead) in rows {
+    for (bytes, dead) in DEATHS {
         let mut test = JsonTest::new();
         test.feed(bytes);
         assert_eq!(rt; test.is_dead(), dead, "{bytes:?}");

@@ -114,22 +114,24 @@ fn place_of(stop: u8, text: &[u8]) -> Option<usize>
 mod tests {
     use super::*;
 
+    /// A value, and the first and last byte and the complete length that it states.
+    const RANGES: [(&[u8], u64, u64, Option<u64>); 6] = [
+        (b"bytes 0-1023/9000", 0, 1023, Some(9000)),
+        (b"bytes 1024-2047/9000", 1024, 2047, Some(9000)),
+        (b" \tBYTES 42-1233/*\t ", 42, 1233, None),
+        (b"bytes 5-5/6", 5, 5, Some(6)),
+        (b"bytes 007-08/0009", 7, 8, Some(9)),
+        (
+            b"bytes 0-9999999999999999998/9999999999999999999",
+            0,
+            9_999_999_999_999_999_998,
+            Some(9_999_999_999_999_999_999),
+        ),
+    ];
+
     #[test]
     fn ranges_are_read(rt: HostRuntime) {
-        let rows: [(&[u8], u64, u64, Option<u64>); 6] = [
-            (b"bytes 0-1023/9000", 0, 1023, Some(9000)),
-            (b"bytes 1024-2047/9000", 1024, 2047, Some(9000)),
-            (b" \tBYTES 42-1233/*\t ", 42, 1233, None),
-            (b"bytes 5-5/6", 5, 5, Some(6)),
-            (b"bytes 007-08/0009", 7, 8, Some(9)),
-            (
-                b"bytes 0-9999999999999999998/9999999999999999999",
-                0,
-                9_999_999_999_999_999_998,
-                Some(9_999_999_999_999_999_999),
-            ),
-        ];
-        for (value, first, last, complete) in rows {
+        for (value, first, last, complete) in RANGES {
             let range = ContentRange {
                 first,
                 last,
@@ -139,27 +141,29 @@ mod tests {
         }
     }
 
+    /// Values that state none.
+    const OTHERS: [&[u8]; 16] = [
+        b"",
+        b"bytes",
+        b"bytes */1234",
+        b"bytes 0-/9",
+        b"bytes 0-4",
+        b"bytes 0-4/",
+        b"bytes 5-4/9",
+        b"bytes 0-9/9",
+        b"bytes  0-4/9",
+        b"bytes 0 - 4/9",
+        b"bytes=0-4/9",
+        b"byte 0-4/9",
+        b"bytes 0-1/9, 4-5/9",
+        b"bytes 0-4/9/9",
+        b"bytes -1-4/9",
+        b"bytes 0-00000000000000000004/9",
+    ];
+
     #[test]
     fn other_values_are_no_ranges(rt: HostRuntime) {
-        let values: [&[u8]; 16] = [
-            b"",
-            b"bytes",
-            b"bytes */1234",
-            b"bytes 0-/9",
-            b"bytes 0-4",
-            b"bytes 0-4/",
-            b"bytes 5-4/9",
-            b"bytes 0-9/9",
-            b"bytes  0-4/9",
-            b"bytes 0 - 4/9",
-            b"bytes=0-4/9",
-            b"byte 0-4/9",
-            b"bytes 0-1/9, 4-5/9",
-            b"bytes 0-4/9/9",
-            b"bytes -1-4/9",
-            b"bytes 0-00000000000000000004/9",
-        ];
-        for value in values {
+        for value in OTHERS {
             assert_eq!(rt; read_content_range(value), None, "{value:?}");
         }
     }

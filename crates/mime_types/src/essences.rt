@@ -55,20 +55,22 @@ mod tests {
     use super::*;
     use std::test::Fail;
 
+    /// A text, and the type and subtype of its essence.
+    const ESSENCES: [(&str, &str, &str); 9] = [
+        ("text/html", "text", "html"),
+        ("\t text/plain;a=\"\\\"\";a=2;b=\r\n", "text", "plain"),
+        ("TEXT/HTML;Charset=\"utf-8\" ;x=1 2", "TEXT", "HTML"),
+        ("text/html;x=\"a,b, c\"", "text", "html"),
+        ("a/b;c=\"d\\", "a", "b"),
+        ("image/svg+xml ; = ;;", "image", "svg+xml"),
+        ("text/javascript \t;", "text", "javascript"),
+        ("*/*", "*", "*"),
+        ("a/b;c/d", "a", "b"),
+    ];
+
     #[test]
     fn finds_the_essence(rt: HostRuntime) -> Result<(), Fail> {
-        let texts: [(&str, &str, &str); 9] = [
-            ("text/html", "text", "html"),
-            ("\t text/plain;a=\"\\\"\";a=2;b=\r\n", "text", "plain"),
-            ("TEXT/HTML;Charset=\"utf-8\" ;x=1 2", "TEXT", "HTML"),
-            ("text/html;x=\"a,b, c\"", "text", "html"),
-            ("a/b;c=\"d\\", "a", "b"),
-            ("image/svg+xml ; = ;;", "image", "svg+xml"),
-            ("text/javascript \t;", "text", "javascript"),
-            ("*/*", "*", "*"),
-            ("a/b;c/d", "a", "b"),
-        ];
-        for (text, main, sub) in texts {
+        for (text, main, sub) in ESSENCES {
             let found = essence_of(text.as_bytes()).ok_or("a MIME type")?;
             assert_eq!(rt; found.main, main.as_bytes(), "in {text}");
             assert_eq!(rt; found.sub, sub.as_bytes(), "in {text}");
@@ -76,26 +78,28 @@ mod tests {
         Ok(())
     }
 
+    /// Texts that are no MIME type.
+    const OTHERS: [&str; 15] = [
+        "",
+        "text",
+        "/",
+        "text/",
+        "/html",
+        "text/ html",
+        "text /html",
+        "te xt/html",
+        "text/h tml",
+        "a/b/c",
+        "text/;html",
+        ";text/html",
+        "text;a/b",
+        "text/html,text/css",
+        "(a)/b",
+    ];
+
     #[test]
     fn finds_none(rt: HostRuntime) {
-        let texts = [
-            "",
-            "text",
-            "/",
-            "text/",
-            "/html",
-            "text/ html",
-            "text /html",
-            "te xt/html",
-            "text/h tml",
-            "a/b/c",
-            "text/;html",
-            ";text/html",
-            "text;a/b",
-            "text/html,text/css",
-            "(a)/b",
-        ];
-        for text in texts {
+        for text in OTHERS {
             assert!(rt; essence_of(text.as_bytes()).is_none(), "in {text}");
         }
     }

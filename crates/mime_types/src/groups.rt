@@ -208,24 +208,25 @@ mod tests {
         }
     }
 
+    /// Type, subtype, safelisted, blocklisted, never sniffed, media.
+    const GROUPS: [(&str, &str, bool, bool, bool, bool); 12] = [
+        ("text", "javascript", true, false, false, false),
+        ("Application", "X-JavaScript", true, false, false, false),
+        ("text", "javascript1.6", false, false, false, false),
+        ("text", "CSS", true, false, false, false),
+        ("image", "svg+xml", true, true, false, true),
+        ("text", "html", false, true, false, false),
+        ("application", "ld+JSON", false, true, false, false),
+        ("application", "json+ld", false, false, false, false),
+        ("application", "dash+xml", false, true, true, false),
+        ("AUDIO", "mpegurl", false, false, true, true),
+        ("text", "csv", false, false, true, false),
+        ("text", "plain", false, false, false, false),
+    ];
+
     #[test]
     fn groups_overlap_as_they_should(rt: HostRuntime) {
-        // type, subtype, safelisted, blocklisted, never sniffed, media
-        let rows: [(&str, &str, bool, bool, bool, bool); 12] = [
-            ("text", "javascript", true, false, false, false),
-            ("Application", "X-JavaScript", true, false, false, false),
-            ("text", "javascript1.6", false, false, false, false),
-            ("text", "CSS", true, false, false, false),
-            ("image", "svg+xml", true, true, false, true),
-            ("text", "html", false, true, false, false),
-            ("application", "ld+JSON", false, true, false, false),
-            ("application", "json+ld", false, false, false, false),
-            ("application", "dash+xml", false, true, true, false),
-            ("AUDIO", "mpegurl", false, false, true, true),
-            ("text", "csv", false, false, true, false),
-            ("text", "plain", false, false, false, false),
-        ];
-        for (main, sub, safe, blocked, never, media) in rows {
+        for (main, sub, safe, blocked, never, media) in GROUPS {
             let e = essence(main, sub);
             assert_eq!(rt; is_safelisted(&e), safe, "{main}/{sub}");
             assert_eq!(rt; is_blocklisted(&e), blocked, "{main}/{sub}");

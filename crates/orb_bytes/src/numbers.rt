@@ -39,27 +39,31 @@ pub fn decimal(n: u64) -> ArrayVec<u8, 20>
 mod tests {
     use super::*;
 
+    /// A text, and the number that it spells.
+    const READ: [(&[u8], Option<u64>); 8] = [
+        (b"0", Some(0)),
+        (b"007", Some(7)),
+        (b"9999999999999999999", Some(9_999_999_999_999_999_999)),
+        (b"", None),
+        (b"00000000000000000001", None),
+        (b"+1", None),
+        (b" 1", None),
+        (b"1a", None),
+    ];
+
+    /// A number, and how it is written.
+    const WRITTEN: [(u64, &[u8]); 3] = [
+        (0, b"0"),
+        (1024, b"1024"),
+        (u64::MAX, b"18446744073709551615"),
+    ];
+
     #[test]
     fn decimals_are_read_and_written(rt: HostRuntime) {
-        let read: [(&[u8], Option<u64>); 8] = [
-            (b"0", Some(0)),
-            (b"007", Some(7)),
-            (b"9999999999999999999", Some(9_999_999_999_999_999_999)),
-            (b"", None),
-            (b"00000000000000000001", None),
-            (b"+1", None),
-            (b" 1", None),
-            (b"1a", None),
-        ];
-        for (text, number) in read {
+        for (text, number) in READ {
             assert_eq!(rt; read_decimal(text), number, "{text:?}");
         }
-        let written: [(u64, &[u8]); 3] = [
-            (0, b"0"),
-            (1024, b"1024"),
-            (u64::MAX, b"18446744073709551615"),
-        ];
-        for (number, text) in written {
+        for (number, text) in WRITTEN {
             assert!(rt; decimal(number).as_slice() == text, "{number}");
         }
     }

@@ -84,30 +84,34 @@ fn trim_end<'t>(text: &'t [u8], class: &[u8]) -> &'t [u8]
 mod tests {
     use super::*;
 
+    /// A text, and what is left of it without HTTP whitespace and without tabs and spaces at both ends.
+    const TRIMMED: [(&[u8], &[u8], &[u8]); 4] = [
+        (b" \t a b\t ", b"a b", b"a b"),
+        (b"\r\na\x0c\n", b"a\x0c", b"\r\na\x0c\n"),
+        (b" \t", b"", b""),
+        (b"", b"", b""),
+    ];
+
     #[test]
     fn ends_are_trimmed(rt: HostRuntime) {
-        let texts: [(&[u8], &[u8], &[u8]); 4] = [
-            (b" \t a b\t ", b"a b", b"a b"),
-            (b"\r\na\x0c\n", b"a\x0c", b"\r\na\x0c\n"),
-            (b" \t", b"", b""),
-            (b"", b"", b""),
-        ];
-        for (text, by_http, by_tab_or_space) in texts {
+        for (text, by_http, by_tab_or_space) in TRIMMED {
             assert!(rt; trim_http_ws(text) == by_http, "{text:?}");
             assert!(rt; trim_tab_or_space(text) == by_tab_or_space, "{text:?}");
         }
     }
 
+    /// A class, a text, and the text without its leading bytes of the class.
+    const LEADING: [(&[u8], &[u8], &[u8]); 5] = [
+        (b"\0", b"\0\0webm\0", b"webm\0"),
+        (b"\0", b" webm", b" webm"),
+        (b"\t ", b"                    \t                  a ", b"a "),
+        (b" ", b"                ", b""),
+        (b"", b"a", b"a"),
+    ];
+
     #[test]
     fn leading_bytes_of_a_class_are_passed(rt: HostRuntime) {
-        let rows: [(&[u8], &[u8], &[u8]); 5] = [
-            (b"\0", b"\0\0webm\0", b"webm\0"),
-            (b"\0", b" webm", b" webm"),
-            (b"\t ", b"                    \t                  a ", b"a "),
-            (b" ", b"                ", b""),
-            (b"", b"a", b"a"),
-        ];
-        for (class, text, rest) in rows {
+        for (class, text, rest) in LEADING {
             assert_eq!(rt; trim_start(text, class), rest, "{text:?}");
         }
         assert_eq!(rt; trim_whitespace_start(b"\x0c\r\n \x0b"), b"\x0b".as_slice());

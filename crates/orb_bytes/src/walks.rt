@@ -157,30 +157,33 @@ mod tests {
         (walk.whole(), walk.just_whole(), walk.is_open())
     }
 
+    /// A text, the least of the rows, whether one is just whole, and whether one is open.
+    const BREAK_TEXTS: [(&[u8], Option<usize>, bool, bool); 7] = [
+        (b"", None, false, true),
+        (b"<", None, false, true),
+        (b"<b", Some(0), true, true),
+        (b"<br", Some(0), true, false),
+        (b"<bx", Some(0), false, false),
+        (b"<x", None, false, false),
+        (b"<brr", Some(0), false, false),
+    ];
+
+    /// The same of the rows that overlap.
+    const OVERLAPPING_TEXTS: [(&[u8], Option<usize>, bool, bool); 6] = [
+        (b"a", None, false, true),
+        (b"ab", Some(2), true, true),
+        (b"abc", Some(1), true, true),
+        (b"axc", Some(1), true, false),
+        (b"abcd", Some(0), true, false),
+        (b"abce", Some(1), false, false),
+    ];
+
     #[test]
     fn rows_are_told_byte_by_byte(rt: HostRuntime) {
-        // text, the least row, whether one is just whole, whether one is open
-        let breaks: [(&[u8], Option<usize>, bool, bool); 7] = [
-            (b"", None, false, true),
-            (b"<", None, false, true),
-            (b"<b", Some(0), true, true),
-            (b"<br", Some(0), true, false),
-            (b"<bx", Some(0), false, false),
-            (b"<x", None, false, false),
-            (b"<brr", Some(0), false, false),
-        ];
-        for (text, whole, just, open) in breaks {
+        for (text, whole, just, open) in BREAK_TEXTS {
             assert!(rt; fed(&BREAKS, text) == (whole, just, open), "{text:?}");
         }
-        let overlapping: [(&[u8], Option<usize>, bool, bool); 6] = [
-            (b"a", None, false, true),
-            (b"ab", Some(2), true, true),
-            (b"abc", Some(1), true, true),
-            (b"axc", Some(1), true, false),
-            (b"abcd", Some(0), true, false),
-            (b"abce", Some(1), false, false),
-        ];
-        for (text, whole, just, open) in overlapping {
+        for (text, whole, just, open) in OVERLAPPING_TEXTS {
             assert!(rt; fed(&OVERLAPPING, text) == (whole, just, open), "{text:?}");
             assert!(rt; first_row(&OVERLAPPING, text) == whole, "{text:?}");
         }

@@ -79,6 +79,15 @@ mod tests {
     use crate::memory_source::MemorySource;
     use std::test::Fail;
 
+    /// Whether a call fails, and where links stand once the link was given back.
+    const DIALS: [(bool, [bool; 4]); 5] = [
+        (false, [false, true, false, true]),
+        (true, [false, true, false, true]),
+        (true, [false, true, false, true]),
+        (false, [false, true, false, true]),
+        (true, [false, true, false, true]),
+    ];
+
     #[test]
     fn dials_each_link_once_and_takes_one_back(rt: HostRuntime) -> Result<(), Fail> {
         let alloc = rt.alloc();
@@ -90,15 +99,7 @@ mod tests {
             links.push(Some(MemoryLink::new(source, sink)))?;
         }
         let mut dialer = MemoryDialer::new(links, [1, 2].to_vec(alloc)?);
-        // whether a call fails, and where links stand when the link was given back
-        let rows = [
-            (false, [false, true, false, true]),
-            (true, [false, true, false, true]),
-            (true, [false, true, false, true]),
-            (false, [false, true, false, true]),
-            (true, [false, true, false, true]),
-        ];
-        for (fails, stand) in rows {
+        for (fails, stand) in DIALS {
             let dialled = dialer.dial(b"a.test", 80);
             assert_eq!(rt; dialled.is_err(), fails);
             if let Ok(link) = dialled {

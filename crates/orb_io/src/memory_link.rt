@@ -115,6 +115,17 @@ mod tests {
         }
     }
 
+    /// Whether a pull and a push go well, and what was put then.
+    const TURNS: [(bool, &str); 7] = [
+        (true, "abc"),
+        (false, "abc"),
+        (false, "abc"),
+        (true, "abcgh"),
+        (false, "abcgh"),
+        (false, "abcgh"),
+        (true, "abcgh"),
+    ];
+
     #[test]
     fn pulls_and_pushes(rt: HostRuntime) -> Result<(), Fail> {
         let alloc = rt.alloc();
@@ -122,16 +133,7 @@ mod tests {
         let source = MemorySource::new(bytes, 3, [1, 4].to_vec(alloc)?);
         let sink = MemorySink::open(alloc, 7, [1, 3].to_vec(alloc)?)?;
         let mut link = MemoryLink::new(source, sink);
-        let turns = [
-            (true, "abc"),
-            (false, "abc"),
-            (false, "abc"),
-            (true, "abcgh"),
-            (false, "abcgh"),
-            (false, "abcgh"),
-            (true, "abcgh"),
-        ];
-        for (done, put) in turns {
+        for (done, put) in TURNS {
             assert_eq!(rt; echo(&mut link), done);
             assert_eq!(rt; link.sink().bytes(), put.as_bytes());
         }

@@ -123,12 +123,26 @@ mod tests {
     use std::alloc::Global;
     use std::test::Fail;
 
-    #[derive(Clone, Copy)]
     enum Call {
         Bind,
         Accept,
         GiveBack(&'static str),
     }
+
+    /// What is called, the name of a link that is handed out, whether it failed, and what then stands.
+    static ROWS: [(Call, &str, bool, [&str; 4]); 11] = [
+        (Call::GiveBack("x"), "", false, ["", "a", "", "b"]),
+        (Call::Bind, "", false, ["", "a", "", "b"]),
+        (Call::Bind, "", true, ["", "a", "", "b"]),
+        (Call::Accept, "", true, ["", "a", "", "b"]),
+        (Call::Accept, "a", false, ["", "", "", "b"]),
+        (Call::GiveBack("x"), "", false, ["", "x", "", "b"]),
+        (Call::GiveBack("y"), "", false, ["", "x", "", "b"]),
+        (Call::Accept, "b", false, ["", "x", "", ""]),
+        (Call::Accept, "", true, ["", "x", "", ""]),
+        (Call::GiveBack("b"), "", false, ["", "x", "", "b"]),
+        (Call::Accept, "", true, ["", "x", "", "b"]),
+    ];
 
     /// A link that shows this name.
     fn named(alloc: Global, name: &str) -> Result<MemoryLink, Fail> {
@@ -155,26 +169,12 @@ mod tests {
             links.push(Some(named(alloc, name)?))?;
         }
         let mut listener = MemoryListener::new(links, [1, 2].to_vec(alloc)?);
-        // what is called, the name of a link that is handed out, whether it failed, and what then stands
-        let rows = [
-            (Call::GiveBack("x"), "", false, ["", "a", "", "b"]),
-            (Call::Bind, "", false, ["", "a", "", "b"]),
-            (Call::Bind, "", true, ["", "a", "", "b"]),
-            (Call::Accept, "", true, ["", "a", "", "b"]),
-            (Call::Accept, "a", false, ["", "", "", "b"]),
-            (Call::GiveBack("x"), "", false, ["", "x", "", "b"]),
-            (Call::GiveBack("y"), "", false, ["", "x", "", "b"]),
-            (Call::Accept, "b", false, ["", "x", "", ""]),
-            (Call::Accept, "", true, ["", "x", "", ""]),
-            (Call::GiveBack("b"), "", false, ["", "x", "", "b"]),
-            (Call::Accept, "", true, ["", "x", "", "b"]),
-        ];
-        for (call, name, fails, stand) in rows {
+        for (call, name, fails, stand) in &ROWS {
             match call {
-                Call::Bind => assert_eq!(rt; listener.bind(b"here").is_err(), fails),
+                Call::Bind => assert_eq!(rt; listener.bind(b"here").is_err(), *fails),
                 Call::Accept => {
                     let link = listener.accept().ok();
-                    assert_eq!(rt; link.is_none(), fails);
+                    assert_eq!(rt; link.is_none(), *fails);
                     assert_eq!(rt; name_of(link.as_ref()), name.as_bytes());
                 }
                 Call::GiveBack(name) => listener.give_back(named(alloc, name)?),

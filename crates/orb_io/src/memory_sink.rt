@@ -110,20 +110,22 @@ mod tests {
     use super::*;
     use std::test::Fail;
 
+    /// What is pushed, whether that goes well, and what was put then.
+    const PUSHES: [(&str, bool, &str); 7] = [
+        ("a", true, "a"),
+        ("b", false, "a"),
+        ("", true, "a"),
+        ("bcdef", false, "abc"),
+        ("", false, "abc"),
+        ("", true, "abc"),
+        ("d", false, "abc"),
+    ];
+
     #[test]
     fn takes_what_fits_and_fails_at_its_calls(rt: HostRuntime) -> Result<(), Fail> {
         let fails = [1, 4].to_vec(rt.alloc())?;
         let mut sink = MemorySink::open(rt.alloc(), 3, fails)?;
-        let pushes = [
-            ("a", true, "a"),
-            ("b", false, "a"),
-            ("", true, "a"),
-            ("bcdef", false, "abc"),
-            ("", false, "abc"),
-            ("", true, "abc"),
-            ("d", false, "abc"),
-        ];
-        for (piece, done, bytes) in pushes {
+        for (piece, done, bytes) in PUSHES {
             assert_eq!(rt; sink.push(piece.as_bytes()).is_ok(), done);
             assert_eq!(rt; sink.bytes(), bytes.as_bytes());
         }

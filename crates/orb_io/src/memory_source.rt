@@ -85,24 +85,25 @@ mod tests {
     use super::*;
     use std::test::Fail;
 
+    /// The room for each pull, and what it gives; none where it fails.
+    const PULLS: [(usize, Option<&str>); 8] = [
+        (5, Some("abc")),
+        (2, Some("de")),
+        (5, None),
+        (0, Some("")),
+        (5, Some("fgh")),
+        (5, Some("")),
+        (0, None),
+        (5, Some("")),
+    ];
+
     #[test]
     fn gives_pieces_and_fails_at_its_calls(rt: HostRuntime) -> Result<(), Fail> {
         let bytes = b"abcdefgh".to_vec(rt.alloc())?;
         let fails = [2, 6].to_vec(rt.alloc())?;
         let mut source = MemorySource::new(bytes, 3, fails);
         let mut buf = [0u8; 5];
-        // The room for each pull, and what it gives; none where it fails.
-        let pulls = [
-            (5, Some("abc")),
-            (2, Some("de")),
-            (5, None),
-            (0, Some("")),
-            (5, Some("fgh")),
-            (5, Some("")),
-            (0, None),
-            (5, Some("")),
-        ];
-        for (room, want) in pulls {
+        for (room, want) in PULLS {
             assert!(rt; room <= 5);
             let given = match source.pull(&mut buf[..room]) {
                 Ok(count) => Some(&buf[..count]),

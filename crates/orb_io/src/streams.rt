@@ -188,6 +188,16 @@ mod tests {
         }
     }
 
+    /// What a pull gives, and the count of faults then.
+    const PULLS: [(Option<&str>, u64); 6] = [
+        (Some("a"), 0),
+        (None, 1),
+        (Some("b"), 1),
+        (None, 2),
+        (Some("c"), 2),
+        (Some(""), 2),
+    ];
+
     #[test]
     fn each_error_of_a_read_is_a_fault(rt: HostRuntime) {
         let reads = [
@@ -199,15 +209,7 @@ mod tests {
         ];
         let mut source = StdSource::new(ByteByByte { reads: &reads });
         let mut buf = [0u8; 4];
-        let pulls = [
-            (Some("a"), 0),
-            (None, 1),
-            (Some("b"), 1),
-            (None, 2),
-            (Some("c"), 2),
-            (Some(""), 2),
-        ];
-        for (want, faults) in pulls {
+        for (want, faults) in PULLS {
             let given = match source.pull(&mut buf) {
                 Ok(count) => Some(&buf[..count]),
                 Err(Failed) => None,
@@ -217,31 +219,32 @@ mod tests {
         }
     }
 
+    /// How the writes and the flush end, whether the push does, what was written, and whether it was flushed.
+    const PUSHES: [(
+        &[Result<usize, ErrorKind>],
+        Result<(), ErrorKind>,
+        bool,
+        &str,
+        bool,
+    ); 7] = [
+        (&[], Ok(()), true, "abcde", true),
+        (&[Ok(2), Ok(1)], Ok(()), true, "abcde", true),
+        (&[Ok(2), Err(ErrorKind::Other)], Ok(()), false, "ab", false),
+        (
+            &[Ok(2), Err(ErrorKind::Interrupted)],
+            Ok(()),
+            false,
+            "ab",
+            false,
+        ),
+        (&[Ok(2), Ok(0)], Ok(()), false, "ab", false),
+        (&[Ok(0)], Ok(()), false, "", false),
+        (&[], Err(ErrorKind::Other), false, "abcde", true),
+    ];
+
     #[test]
     fn a_push_writes_all_and_flushes(rt: HostRuntime) -> Result<(), Fail> {
-        let other = Err(ErrorKind::Other);
-        let cases: [(
-            &[Result<usize, ErrorKind>],
-            Result<(), ErrorKind>,
-            bool,
-            &str,
-            bool,
-        ); 7] = [
-            (&[], Ok(()), true, "abcde", true),
-            (&[Ok(2), Ok(1)], Ok(()), true, "abcde", true),
-            (&[Ok(2), other], Ok(()), false, "ab", false),
-            (
-                &[Ok(2), Err(ErrorKind::Interrupted)],
-                Ok(()),
-                false,
-                "ab",
-                false,
-            ),
-            (&[Ok(2), Ok(0)], Ok(()), false, "ab", false),
-            (&[Ok(0)], Ok(()), false, "", false),
-            (&[], Err(ErrorKind::Other), false, "abcde", true),
-        ];
-        for (writes, flush, done, taken, flushed) in cases {
+        for (writes, flush, done, taken, flushed) in PUSHES {
             let mut sink = StdSink::new(Taking {
                 writes,
                 flush,

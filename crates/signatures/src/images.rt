@@ -87,19 +87,21 @@ pub fn image_type(window: &[u8]) -> Option<ImageType>
 mod tests {
     use super::*;
 
+    /// A window, and the image that it shows.
+    const IMAGES: [(&[u8], ImageType); 8] = [
+        (b"\0\0\x01\0", ImageType::Icon),
+        (b"\0\0\x02\0", ImageType::Cursor),
+        (b"BM", ImageType::Bmp),
+        (b"GIF87a", ImageType::Gif87),
+        (b"GIF89a", ImageType::Gif89),
+        (b"RIFF\x24\0\0\0WEBPVP", ImageType::Webp),
+        (b"\x89PNG\x0d\x0a\x1a\x0a", ImageType::Png),
+        (b"\xff\xd8\xff", ImageType::Jpeg),
+    ];
+
     #[test]
     fn each_image_is_told_by_its_bytes(rt: HostRuntime) {
-        let rows: [(&[u8], ImageType); 8] = [
-            (b"\0\0\x01\0", ImageType::Icon),
-            (b"\0\0\x02\0", ImageType::Cursor),
-            (b"BM", ImageType::Bmp),
-            (b"GIF87a", ImageType::Gif87),
-            (b"GIF89a", ImageType::Gif89),
-            (b"RIFF\x24\0\0\0WEBPVP", ImageType::Webp),
-            (b"\x89PNG\x0d\x0a\x1a\x0a", ImageType::Png),
-            (b"\xff\xd8\xff", ImageType::Jpeg),
-        ];
-        for (window, kind) in rows {
+        for (window, kind) in IMAGES {
             assert_eq!(rt; image_type(window), Some(kind), "{window:?}");
             if let [shorter @ .., _] = window {
                 assert_eq!(rt; image_type(shorter), None, "{shorter:?}");
@@ -107,17 +109,19 @@ mod tests {
         }
     }
 
+    /// Windows that show none.
+    const NO_IMAGES: [&[u8]; 6] = [
+        b"",
+        b"GIF88a",
+        b" GIF89a",
+        b"RIFF\x24\0\0\0WEBPVX",
+        b"RIFF\x24\0\0\0WAVEVP",
+        b"<svg xmlns=",
+    ];
+
     #[test]
     fn other_windows_show_no_image(rt: HostRuntime) {
-        let windows: [&[u8]; 6] = [
-            b"",
-            b"GIF88a",
-            b" GIF89a",
-            b"RIFF\x24\0\0\0WEBPVX",
-            b"RIFF\x24\0\0\0WAVEVP",
-            b"<svg xmlns=",
-        ];
-        for window in windows {
+        for window in NO_IMAGES {
             assert_eq!(rt; image_type(window), None, "{window:?}");
         }
     }

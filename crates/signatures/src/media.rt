@@ -92,24 +92,26 @@ pub fn media_type(window: &[u8]) -> Option<MediaType>
 mod tests {
     use super::*;
 
+    /// A window, and the media type that it shows.
+    const MEDIA: [(&[u8], MediaType); 9] = [
+        (b"FORM\0\0\x10\0AIFF", MediaType::Aiff),
+        (b"ID3", MediaType::MpegTag),
+        (b"OggS\0", MediaType::Ogg),
+        (b"MThd\0\0\0\x06", MediaType::Midi),
+        (b"RIFF\x01\x02\x03\x04AVI ", MediaType::Avi),
+        (b"RIFF\x01\x02\x03\x04WAVE", MediaType::Wave),
+        (b"\0\0\0\x0cftypmp42", MediaType::Mp4),
+        (b"\x1a\x45\xdf\xa3\x9f\x42\x82\x84webm", MediaType::Webm),
+        // 8 kilobits at 24,000 samples a second: a frame of 24 bytes
+        (
+            b"\xff\xf3\x14\0\0\0\0\0\0\0\0\0\0\0\0\0\0\0\0\0\0\0\0\0\xff\xf3\x14\0",
+            MediaType::MpegFrame,
+        ),
+    ];
+
     #[test]
     fn each_media_type_is_told_by_its_bytes(rt: HostRuntime) {
-        let rows: [(&[u8], MediaType); 9] = [
-            (b"FORM\0\0\x10\0AIFF", MediaType::Aiff),
-            (b"ID3", MediaType::MpegTag),
-            (b"OggS\0", MediaType::Ogg),
-            (b"MThd\0\0\0\x06", MediaType::Midi),
-            (b"RIFF\x01\x02\x03\x04AVI ", MediaType::Avi),
-            (b"RIFF\x01\x02\x03\x04WAVE", MediaType::Wave),
-            (b"\0\0\0\x0cftypmp42", MediaType::Mp4),
-            (b"\x1a\x45\xdf\xa3\x9f\x42\x82\x84webm", MediaType::Webm),
-            // 8 kilobits at 24,000 samples a second: a frame of 24 bytes
-            (
-                b"\xff\xf3\x14\0\0\0\0\0\0\0\0\0\0\0\0\0\0\0\0\0\0\0\0\0\xff\xf3\x14\0",
-                MediaType::MpegFrame,
-            ),
-        ];
-        for (window, kind) in rows {
+        for (window, kind) in MEDIA {
             assert_eq!(rt; media_type(window), Some(kind), "{window:?}");
             if let [shorter @ .., _] = window {
                 assert_eq!(rt; media_type(shorter), None, "{shorter:?}");

@@ -103,25 +103,26 @@ fn sample_rate(version: u8, index: u8) -> u16
 mod tests {
     use super::*;
 
+    /// The second and third byte of the headers, the offset of the second header, and whether they match.
+    const HEADERS: [(u8, u8, usize, bool); 10] = [
+        // 128 kilobits at 44,100 samples: 417 bytes, and one of padding
+        (0xfb, 0x90, 417, true),
+        (0xfb, 0x92, 417, false),
+        (0xfb, 0x92, 418, true),
+        // 64 kilobits at 22,050 samples, and at 11,025
+        (0xf3, 0x80, 208, true),
+        (0xe3, 0x80, 417, true),
+        // no free or forbidden bit rate, no reserved sample rate, no reserved version, no layer 2
+        (0xfb, 0x00, 417, false),
+        (0xfb, 0xf0, 417, false),
+        (0xfb, 0x9c, 417, false),
+        (0xeb, 0x90, 417, false),
+        (0xfd, 0x90, 417, false),
+    ];
+
     #[test]
     fn a_second_header_follows_the_first_frame(rt: HostRuntime) {
-        // second and third byte of the headers, the offset of the second header
-        let rows: [(u8, u8, usize, bool); 10] = [
-            // 128 kilobits at 44,100 samples: 417 bytes, and one of padding
-            (0xfb, 0x90, 417, true),
-            (0xfb, 0x92, 417, false),
-            (0xfb, 0x92, 418, true),
-            // 64 kilobits at 22,050 samples, and at 11,025
-            (0xf3, 0x80, 208, true),
-            (0xe3, 0x80, 417, true),
-            // no free or forbidden bit rate, no reserved sample rate, no reserved version, no layer 2
-            (0xfb, 0x00, 417, false),
-            (0xfb, 0xf0, 417, false),
-            (0xfb, 0x9c, 417, false),
-            (0xeb, 0x90, 417, false),
-            (0xfd, 0x90, 417, false),
-        ];
-        for (second, third, offset, matches) in rows {
+        for (second, third, offset, matches) in HEADERS {
             let mut window = [0; 422];
             for start in [0, offset] {
                 if start <= 418 {

@@ -50,21 +50,23 @@ mod tests {
         }
     }
 
+    /// A window, and whether it is MP4.
+    const BRANDS: [(&[u8], bool); 10] = [
+        (b"\0\0\0\0ftypmp4 ", true),
+        (b"\0\0\0\x08ftypmp4 ", true),
+        (b"\0\0\0\0ftypmp4", false),
+        (b"\0\0\0\0fty mp4 ", false),
+        (b"\0\0\0\x14ftypisom\0\0\0\0mp41", true),
+        (b"\0\0\0\x18ftypisom\0\0\0\0avc1mp41", true),
+        (b"\0\0\0\x14ftypisommp41isom", false),
+        (b"\0\0\0\x14ftypisom\0\0\0\0isommp41", false),
+        (b"\0\0\0\x18ftypisom\0\0\0\0 mp4isom", false),
+        (b"\0\0\0\x14moovmp42\0\0\0\0mp41", false),
+    ];
+
     #[test]
     fn brands_are_sought_where_they_stand(rt: HostRuntime) {
-        let rows: [(&[u8], bool); 10] = [
-            (b"\0\0\0\0ftypmp4 ", true),
-            (b"\0\0\0\x08ftypmp4 ", true),
-            (b"\0\0\0\0ftypmp4", false),
-            (b"\0\0\0\0fty mp4 ", false),
-            (b"\0\0\0\x14ftypisom\0\0\0\0mp41", true),
-            (b"\0\0\0\x18ftypisom\0\0\0\0avc1mp41", true),
-            (b"\0\0\0\x14ftypisommp41isom", false),
-            (b"\0\0\0\x14ftypisom\0\0\0\0isommp41", false),
-            (b"\0\0\0\x18ftypisom\0\0\0\0 mp4isom", false),
-            (b"\0\0\0\x14moovmp42\0\0\0\0mp41", false),
-        ];
-        for (window, matches) in rows {
+        for (window, matches) in BRANDS {
             assert_eq!(rt; is_mp4(window), matches, "{window:?}");
         }
     }

@@ -53,6 +53,18 @@ pub fn stands_at(text: &[u8], offset: usize, window: &[u8]) -> bool
 mod tests {
     use super::*;
 
+    /// A window, and whether it is matched as it is, and after white space.
+    const WINDOWS: [(&[u8], bool, bool); 8] = [
+        (b"A\xffC", true, true),
+        (b"a.CD", true, true),
+        (b"A.c", false, false),
+        (b"A.", false, false),
+        (b"", false, false),
+        (b" \t\n\x0c\rA.C", false, true),
+        (b"\x0bA.C", false, false),
+        (b" ", false, false),
+    ];
+
     #[test]
     fn masks_and_white_space_count(rt: HostRuntime) {
         let plain = Pattern {
@@ -65,18 +77,7 @@ mod tests {
             mask: b"\xdf\0\xff",
             skip_space: true,
         };
-        // window, matched as it is, matched after white space
-        let rows: [(&[u8], bool, bool); 8] = [
-            (b"A\xffC", true, true),
-            (b"a.CD", true, true),
-            (b"A.c", false, false),
-            (b"A.", false, false),
-            (b"", false, false),
-            (b" \t\n\x0c\rA.C", false, true),
-            (b"\x0bA.C", false, false),
-            (b" ", false, false),
-        ];
-        for (window, as_it_is, after_space) in rows {
+        for (window, as_it_is, after_space) in WINDOWS {
             assert_eq!(rt; plain.matches(window), as_it_is, "{window:?}");
             assert_eq!(rt; skipping.matches(window), after_space, "{window:?}");
         }

@@ -44,24 +44,26 @@ fn is_doc_type(text: &[u8]) -> bool
 mod tests {
     use super::*;
 
+    /// A window, and whether it is WebM.
+    const DOC_TYPES: [(&[u8], bool); 9] = [
+        (b"\x1a\x45\xdf\xa3\x9f\x42\x82\x84webm", true),
+        // as a muxer writes it
+        (
+            b"\x1a\x45\xdf\xa3\x9f\x42\x86\x81\x01\x42\xf7\x81\x01\x42\xf2\x81\x04\x42\xf3\x81\x08\x42\x82\x84webm\x42\x87\x81\x02",
+            true,
+        ),
+        (b"\x1a\x45\xdf\xa3\x42\x82\x40\x04webm", true),
+        (b"\x1a\x45\xdf\xa3\x42\x82\x86\0\0webm", true),
+        (b"\x1a\x45\xdf\xa3\x42\x82\0\x84webm", false),
+        (b"\x1a\x45\xdf\xa3\x42\x82\x88matroska", false),
+        (b"\x1a\x45\xdf\xa3\x42\x82\x84web", false),
+        (b"\x1a\x45\xdf\xa2\x42\x82\x84webm", false),
+        (b"\x1a\x45\xdf\xa3\x42\x82", false),
+    ];
+
     #[test]
     fn doc_types_are_read_after_the_header(rt: HostRuntime) {
-        let rows: [(&[u8], bool); 9] = [
-            (b"\x1a\x45\xdf\xa3\x9f\x42\x82\x84webm", true),
-            // as a muxer writes it
-            (
-                b"\x1a\x45\xdf\xa3\x9f\x42\x86\x81\x01\x42\xf7\x81\x01\x42\xf2\x81\x04\x42\xf3\x81\x08\x42\x82\x84webm\x42\x87\x81\x02",
-                true,
-            ),
-            (b"\x1a\x45\xdf\xa3\x42\x82\x40\x04webm", true),
-            (b"\x1a\x45\xdf\xa3\x42\x82\x86\0\0webm", true),
-            (b"\x1a\x45\xdf\xa3\x42\x82\0\x84webm", false),
-            (b"\x1a\x45\xdf\xa3\x42\x82\x88matroska", false),
-            (b"\x1a\x45\xdf\xa3\x42\x82\x84web", false),
-            (b"\x1a\x45\xdf\xa2\x42\x82\x84webm", false),
-            (b"\x1a\x45\xdf\xa3\x42\x82", false),
-        ];
-        for (window, matches) in rows {
+        for (window, matches) in DOC_TYPES {
             assert_eq!(rt; is_webm(window), matches, "{window:?}");
         }
     }

@@ -87,16 +87,18 @@ fn each_kind_as_it_is_sent(rt: HostRuntime) {
     }
 }
 
+/// A seed, how many exchanges, and how many bytes they have.
+const LENGTHS: [(u64, u64, u64); 5] = [
+    (0, 0, 0),
+    (0, 8, 1100),
+    (102, 1, 237),
+    (1_000_000_000_000_000_000, 1, 1531),
+    (0, 8072, 11_254_079),
+];
+
 #[test]
 fn as_many_bytes_as_the_exchanges_have(rt: HostRuntime) {
-    let rows: [(u64, u64, u64); 5] = [
-        (0, 0, 0),
-        (0, 8, 1100),
-        (102, 1, 237),
-        (1_000_000_000_000_000_000, 1, 1531),
-        (0, 8072, 11_254_079),
-    ];
-    for (seed, count, length) in rows {
+    for (seed, count, length) in LENGTHS {
         assert_eq!(rt;
             length_of(&mut TrialSource::new(seed, count)),
             length,
