@@ -42,6 +42,7 @@ impl Filter {
     ghost use Rattle.response_rules.specs.Reads.{HasRead as DeciderHasRead, IsVerdict};
     ghost use Rattle.body_filter.specs.Responses.{Response, response_of, output_so_far, whole_output, held_of};
     ghost use Rattle.body_filter.specs.Reads.{HasRead, CanFeed, IsSpent, IsMadeFor, AreMadeFor, limit_of, held_in, is_script_dead};
+    ghost use Rattle.body_filter.specs.Calls.{Begins, Feeds};
 
     /// A filter that holds back at most `limit` bytes of a body, from 1,024 to 268,435,456. It reserves
     /// room for them and for a head of 65,536 bytes.
@@ -83,12 +84,9 @@ impl Filter {
     ) -> Result<(), WriteFault>
         requires short { length head.now ≤ 65536 }
         requires made { IsMadeFor decider (limit_of self.old) }
-        ensures delivers { (h : Case) → DeciderHasRead decider h []
-            → Delivers result (O.told sink.old) (O.told sink.new)
-            [] (output_so_far (response_of h head.now chunked) [])
-            (λ _. HasRead self.new (response_of h head.now chunked) []) }
+        ensures calls { Calls O.Sink result sink.old sink.new (λ told told'.
+            (h : Case) → DeciderHasRead decider h [] → Begins result self.new (response_of h head.now chunked) told told') }
         ensures spent { OnErr result (IsSpent self.new) }
-        ensures calls { Calls O.Sink result sink.old sink.new }
         ensures limit { limit_of self.new ≡ limit_of self.old }
     {
         self.decider = decider;
@@ -106,12 +104,9 @@ impl Filter {
     ) -> Result<(), WriteFault>
         requires short { length head.now ≤ 65536 }
         requires made { AreMadeFor facts (limit_of self.old) }
-        ensures delivers { (h : Case) → AreFactsOf facts h
-            → Delivers result (O.told sink.old) (O.told sink.new)
-            [] (output_so_far (response_of h head.now chunked) [])
-            (λ _. HasRead self.new (response_of h head.now chunked) []) }
+        ensures calls { Calls O.Sink result sink.old sink.new (λ told told'.
+            (h : Case) → AreFactsOf facts h → Begins result self.new (response_of h head.now chunked) told told') }
         ensures spent { OnErr result (IsSpent self.new) }
-        ensures calls { Calls O.Sink result sink.old sink.new }
         ensures limit { limit_of self.new ≡ limit_of self.old }
     {
         self.decider.begin(facts);
@@ -122,11 +117,8 @@ impl Filter {
     /// then, all that was held and the piece go out.
     pub fn feed<O: Sink>(&mut self, piece: &[u8], sink: &mut O) -> Result<(), WriteFault>
         requires { CanFeed self.old }
-        ensures delivers { (x : Response) (m : List ℕ) → HasRead self.old x m
-            → Delivers result (O.told sink.old) (O.told sink.new)
-            (output_so_far x m) (output_so_far x (m ++ piece.now)) (λ _. HasRead self.new x (m ++ piece.now)) }
+        ensures calls { Calls O.Sink result sink.old sink.new (Feeds result self.old self.new piece.now) }
         ensures spent { OnErr result (IsSpent self.new) }
-        ensures calls { Calls O.Sink result sink.old sink.new }
         ensures limit { limit_of self.new ≡ limit_of self.old }
     {
         self.feed_by(piece, Pushes::Batches, sink)
@@ -140,11 +132,8 @@ impl Filter {
         sink: &mut O,
     ) -> Result<(), WriteFault>
         requires { CanFeed self.old }
-        ensures delivers { (x : Response) (m : List ℕ) → HasRead self.old x m
-            → Delivers result (O.told sink.old) (O.told sink.new)
-            (output_so_far x m) (output_so_far x (m ++ piece.now)) (λ _. HasRead self.new x (m ++ piece.now)) }
+        ensures calls { Calls O.Sink result sink.old sink.new (Feeds result self.old self.new piece.now) }
         ensures spent { OnErr result (IsSpent self.new) }
-        ensures calls { Calls O.Sink result sink.old sink.new }
         ensures limit { limit_of self.new ≡ limit_of self.old }
     {
         match self.phase {
@@ -158,16 +147,15 @@ impl Filter {
         }
     }
 
-    /// Ends the body, and tells the verdict. What is owed goes out: the rest of an allowed response, or the reply that stands in the place of a blocked one.
-    /// The filter then takes only `begin`.
+    /// Ends the body, and tells the verdict. What is owed goes out: the rest of an allowed response, or the reply that
+    /// stands in the place of a blocked one. The filter then takes only `begin`.
     pub fn end<O: Sink>(&mut self, sink: &mut O) -> Result<Verdict, WriteFault>
         requires { CanFeed self.old }
-        ensures delivers { (x : Response) (m : List ℕ) → HasRead self.old x m
-            → Delivers result (O.told sink.old) (O.told sink.new)
-            (output_so_far x m) (whole_output x m) (λ v. IsVerdict x.judged m v) }
+        ensures calls { Calls O.Sink result sink.old sink.new (λ told told'.
+            (x : Response) (m : List ℕ) → HasRead self.old x m
+            → Delivers result told told' (output_so_far x m) (whole_output x m) (λ v. IsVerdict x.judged m v)) }
         ensures spent { IsSpent self.new }
         ensures empty { OnOk result (held_in self.new ≡ 0) }
-        ensures calls { Calls O.Sink result sink.old sink.new }
         ensures limit { limit_of self.new ≡ limit_of self.old }
     {
         let verdict = self.decider.finish();
@@ -206,24 +194,21 @@ impl Filter {
 }
 
 impl Filter {
-    ghost use Rattle.std.specs.Prelude.{◌≡◌, ℕ, ◌++◌, List, [], length, OnErr};
-    ghost use Rattle.orb_io.specs.Told.{Delivers};
+    ghost use Rattle.std.specs.Prelude.{◌≡◌, [], length, OnErr};
     ghost use Rattle.orb_io.specs.Calls.{Calls, Puts};
     ghost use Rattle.response_rules.specs.Heads.{Case};
     ghost use Rattle.response_rules.specs.Reads.{HasRead as DeciderHasRead};
-    ghost use Rattle.body_filter.specs.Responses.{Response, response_of, output_so_far};
-    ghost use Rattle.body_filter.specs.Reads.{HasRead, CanFeed, IsSpent, IsMadeFor, limit_of, ended_by};
+    ghost use Rattle.body_filter.specs.Responses.{response_of};
+    ghost use Rattle.body_filter.specs.Reads.{CanFeed, IsSpent, IsMadeFor, limit_of, ended_by};
+    ghost use Rattle.body_filter.specs.Calls.{Begins, Feeds};
 
     /// Begins the response whose decider is new.
     fn start<O: Sink>(&mut self, head: &[u8], chunked: bool, sink: &mut O) -> Result<(), WriteFault>
         requires short { length head.now ≤ 65536 }
         requires made { IsMadeFor self.old.decider (limit_of self.old) }
-        ensures delivers { (h : Case) → DeciderHasRead self.old.decider h []
-            → Delivers result (O.told sink.old) (O.told sink.new)
-            [] (output_so_far (response_of h head.now chunked) [])
-            (λ _. HasRead self.new (response_of h head.now chunked) []) }
+        ensures calls { Calls O.Sink result sink.old sink.new (λ told told'.
+            (h : Case) → DeciderHasRead self.old.decider h [] → Begins result self.new (response_of h head.now chunked) told told') }
         ensures spent { OnErr result (IsSpent self.new) }
-        ensures calls { Calls O.Sink result sink.old sink.new }
         ensures limit { limit_of self.new ≡ limit_of self.old }
     {
         self.framer.start(chunked);
@@ -255,11 +240,8 @@ impl Filter {
     ) -> Result<(), WriteFault>
         requires can { CanFeed self.old }
         requires holding { self.old.phase ≡ Phase.Holding }
-        ensures delivers { (x : Response) (m : List ℕ) → HasRead self.old x m
-            → Delivers result (O.told sink.old) (O.told sink.new)
-            (output_so_far x m) (output_so_far x (m ++ piece.now)) (λ _. HasRead self.new x (m ++ piece.now)) }
+        ensures calls { Calls O.Sink result sink.old sink.new (Feeds result self.old self.new piece.now) }
         ensures idle { OnErr result (self.new.phase ≡ Phase.Idle) }
-        ensures calls { Calls O.Sink result sink.old sink.new }
         ensures limit { limit_of self.new ≡ limit_of self.old }
     {
         match read_on(&mut self.decider, piece) {
@@ -295,11 +277,8 @@ impl Filter {
     ) -> Result<(), WriteFault>
         requires can { CanFeed self.old }
         requires sending { self.old.phase ≡ Phase.Passing }
-        ensures delivers { (x : Response) (m : List ℕ) → HasRead self.old x m
-            → Delivers result (O.told sink.old) (O.told sink.new)
-            (output_so_far x m) (output_so_far x (m ++ piece.now)) (λ _. HasRead self.new x (m ++ piece.now)) }
+        ensures calls { Calls O.Sink result sink.old sink.new (Feeds result self.old self.new piece.now) }
         ensures idle { OnErr result (self.new.phase ≡ Phase.Idle) }
-        ensures calls { Calls O.Sink result sink.old sink.new }
         ensures limit { limit_of self.new ≡ limit_of self.old }
     {
         let _judgement = read_on(&mut self.decider, piece);

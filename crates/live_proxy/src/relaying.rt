@@ -1,6 +1,7 @@
 //! A response that is relayed: pulled from upstream, judged, and put into the client as far as it may go out.
 ghost use Rattle.std.specs.Prelude.{◌≡◌, ◌≤◌, ◌^◌, ℕ, List, [], ◌++◌, length, take, drop};
 ghost use Rattle.orb_io.specs.Told.{Gives};
+ghost use Rattle.orb_io.specs.Calls.{Acts};
 ghost use Rattle.http_exchange.specs.HeadTexts.{IsHeadText};
 ghost use Rattle.body_filter.specs.Reads.{limit_of};
 ghost use Rattle.exchanges.specs.declared.room.Context.{Context};
@@ -123,11 +124,9 @@ fn begin<K: Sink>(
 ) -> Result<Arriving, ProxyOutcome>
     requires text { IsHeadText head.old }
     requires limit { context.limit ≡ limit_of filter.old }
-    ensures begins { (rest : List ℕ) → Gives (K.told client.old) (K.told client.new) []
-        (Begins result context filter.new head.old rest) }
+    ensures acts { Acts K.Sink (ClientCause result) client.old client.new (λ told told'.
+        (rest : List ℕ) → Gives told told' [] (Begins result context filter.new head.old rest)) }
     ensures same { head.new ≡ head.old }
-    ensures cause { ClientCause result (K.faults client.old) (K.faults client.new) }
-    ensures keeps { K.kept client.old client.new }
     ensures limit { limit_of filter.new ≡ limit_of filter.old }
 {
     let (facts, frame) = match head.response(context) {
@@ -151,10 +150,9 @@ fn pass<K: Sink>(
     client: &mut K,
 ) -> Result<(), ProxyOutcome>
     requires { (c : Context) × (bytes : List ℕ) × (given : List ℕ) × Receives c arriving.old filter.old bytes piece.now given }
-    ensures passes { (c : Context) (bytes given : List ℕ) → Receives c arriving.old filter.old bytes piece.now given
-        → Gives (K.told client.old) (K.told client.new) given (Passes result c arriving.new filter.new bytes) }
-    ensures cause { ClientCause result (K.faults client.old) (K.faults client.new) }
-    ensures keeps { K.kept client.old client.new }
+    ensures acts { Acts K.Sink (ClientCause result) client.old client.new (λ told told'.
+        (c : Context) (bytes given : List ℕ) → Receives c arriving.old filter.old bytes piece.now given
+        → Gives told told' given (Passes result c arriving.new filter.new bytes)) }
     ensures limit { limit_of filter.new ≡ limit_of filter.old }
 {
     let mut rest = piece;

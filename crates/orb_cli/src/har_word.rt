@@ -1,6 +1,7 @@
 //! The word `har`: a HAR log, whose recording is judged.
 ghost use Rattle.std.specs.Prelude.{◌≡◌, ◌≤◌, ◌^◌, ℕ, List, [], true, length};
 ghost use Rattle.orb_io.specs.Told.{Loses, Gives};
+ghost use Rattle.orb_io.specs.Calls.{Acts};
 ghost use Rattle.orb_engine.specs.Reads.{HaltCause};
 ghost use Rattle.orb_engine.specs.Runs.{settings_of};
 ghost use Rattle.orb_cli.specs.Outcomes.{outcome_of};
@@ -101,9 +102,8 @@ fn judge_whole<O: Sink>(alloc: Global, recording: &[u8], output: &mut O) -> Outc
 /// Takes a recording in one piece, and its end.
 fn run_whole<O: Sink>(engine: &mut Engine, recording: &[u8], output: &mut O) -> EngineOutcome
     requires { length recording.now ≤ 2 ^ 62 }
-    ensures answers { Gives (O.told output.old) (O.told output.new) []
-        (IsWholeAnswer (settings_of engine.old) recording.now (outcome_of result)) }
-    ensures causes { HaltCause result (O.faults output.old) (O.faults output.new) }
+    ensures { Acts O.Sink (HaltCause result) output.old output.new (λ told told'.
+        Gives told told' [] (IsWholeAnswer (settings_of engine.old) recording.now (outcome_of result))) }
 {
     engine.start();
     match engine.feed(recording, output) {

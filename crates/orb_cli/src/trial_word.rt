@@ -1,6 +1,7 @@
 //! The word `trial`: the engine over a made-up recording, and how that went in a line.
 ghost use Rattle.std.specs.Prelude.{◌≡◌, ◌≤◌, ◌^◌, ℕ, []};
 ghost use Rattle.orb_io.specs.Told.{Gives};
+ghost use Rattle.orb_io.specs.Calls.{Acts};
 ghost use Rattle.orb_engine.specs.Reads.{HaltCause};
 ghost use Rattle.orb_engine.specs.Runs.{settings_of};
 ghost use Rattle.orb_cli.specs.Trial.{TrialAnswers, trial_line, trial_settings};
@@ -27,10 +28,8 @@ pub fn trial_run<O: Sink>(
 ) -> EngineOutcome
     requires seed { seed ≤ 10 ^ 18 }
     requires count { count ≤ 1000000 }
-    ensures answers { Gives (O.told output.old) (O.told output.new) []
-        (TrialAnswers result engine.new (settings_of engine.old) seed count) }
-    ensures causes { HaltCause result (O.faults output.old) (O.faults output.new) }
-    ensures keeps { O.kept output.old output.new }
+    ensures acts { Acts O.Sink (HaltCause result) output.old output.new (λ told told'.
+        Gives told told' [] (TrialAnswers result engine.new (settings_of engine.old) seed count)) }
     ensures settings { settings_of engine.new ≡ settings_of engine.old }
 {
     let mut source = TrialSource::new(seed, count);

@@ -23,7 +23,7 @@ use Rattle.orb_engine.specs.Recording.{Exchange, Tail, Recording, is_open}
 use Rattle.orb_engine.specs.Outputs.{output_of, written_exchanges}
 use Rattle.orb_engine.specs.Counts.{rules_of, rules_of_exchanges, rules_of_tail}
 use Rattle.orb_engine.specs.Writing.{IsSameBut, IsWriterFor, box_of, gathered_by}
-use Rattle.orb_engine.specs.Reads.{open_cut, table_of, counts_of, IsTold, Stands, IsStop, Reads, Stops, Breaks}
+use Rattle.orb_engine.specs.Reads.{open_cut, table_of, counts_of, IsTold, Stands, IsStop, Reads, Stops, Halts, Breaks, HaltCause}
 use Rattle.orb_engine.specs.Ends.{Open}
 use Rattle.orb_engine.specs.Runs.{HasCounted, HasCountedPrefix, HasRead, Ends, Fails, EndsAs}
 use Rattle.orb_engine.proofs.AnswerLaws.{opens-stop}
@@ -221,4 +221,23 @@ reads-broken e e' s m given more r counts within = record {
   cut = r.cut;
   within = subst (λ (t : List ℕ). IsPrefix (given ++ more) t) r.gave within;
   counted = counted-prefix e' s r.exchanges given more (rw counts r.common.told);
+}
+
+-- an outcome that is no write fault left the count as it was
+pub stop-unraised : (o : EngineOutcome) (a b : ℕ) → (o ≡ outcome.WriteFault → ⊥) → HaltCause o a b → b ≡ a
+stop-unraised outcome.WriteFault a b other cause = absurd (other refl)
+stop-unraised o a b other cause = cause
+
+-- where the recording stops, and the sink has not failed, the state counts for nothing
+pub halts-stops : (o : EngineOutcome) (e e' : Engine) (s : Settings) (m : List ℕ) (ended : Bool) (given : List ℕ)
+    → (o ≡ outcome.WriteFault → ⊥) → e'.writer ≡ e.writer → e'.progress ≡ e.progress → Halts o e s m ended given
+    → Stops o e' s m ended given
+halts-stops outcome.WriteFault e e' s m ended given other writer progress h = absurd (other refl)
+halts-stops o e e' s m ended given other writer progress h = record {
+  recording = h.recording;
+  cut = h.cut;
+  stop = h.stop;
+  gave = rw writer h.gave;
+  counts = rw progress h.counts;
+  told = rw progress h.told;
 }

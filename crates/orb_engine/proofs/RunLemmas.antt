@@ -121,7 +121,7 @@ turn-fault p failed e s m given room is r =
 
 -- ---- causes
 
-ok-cause : (p : Result ℕ Failed) (n before after : ℕ) → p ≡ Ok n → HasCause before after p → after ≡ before
+pub ok-cause : (p : Result ℕ Failed) (n before after : ℕ) → p ≡ Ok n → HasCause before after p → after ≡ before
 ok-cause p n before after is cause = subst (λ (q : Result ℕ Failed). HasCause before after q) is cause
 
 end-cause : (r : EngineOutcome) (e : Engine) (s : Settings) (m given : List ℕ) (i j x y : ℕ) → EndsAs r e s m true given → j ≡ i

@@ -197,6 +197,10 @@ abbrev pub HaltCause : EngineOutcome → ℕ → ℕ → Type 0
 HaltCause outcome.WriteFault before after = Rose before after
 HaltCause o before after = after ≡ before
 
+-- the same of an outcome that another may have stopped before
+abbrev pub HaltCauseAfter : (stop outcome : EngineOutcome) → ℕ → ℕ → Type 0
+HaltCauseAfter stop o faults faults' = (before : ℕ) → HaltCause stop before faults → HaltCause o before faults'
+
 abbrev pub Causes : {T : Type 0} → Result T EngineOutcome → ℕ → ℕ → Type 0
 Causes (Ok value) before after = after ≡ before
 Causes (Err o) before after = HaltCause o before after

@@ -1,7 +1,7 @@
 -- What a run does with one pull.
 use Rattle.std.specs.Prelude.{◌≡◌, ℕ, Bool, false, ◌==◌, List, [], take, Option, Some, None, Result, Ok, Err}
 use Rattle.orb_io.specs.declared.outside.Failed.{Failed}
-use Rattle.orb_io.specs.Told.{Loses}
+use Rattle.orb_io.specs.Told.{Loses, HasCause}
 use Rattle.orb_engine.specs.declared.settings.Settings.{Settings}
 use Rattle.orb_engine.specs.declared.engine.Engine.{Engine}
 use Rattle.orb_engine.specs.declared.outcome.EngineOutcome.{EngineOutcome}
@@ -25,6 +25,10 @@ TurnAnswers (Some o) e s read ended given = RunAnswers o e s read ended given
 abbrev pub TurnCauses : Option EngineOutcome → (source source' sink sink' : ℕ) → Type 0
 TurnCauses None source source' sink sink' = (source' ≡ source) × (sink' ≡ sink)
 TurnCauses (Some o) source source' sink sink' = RunCauses o source source' sink sink'
+
+-- the same after what the pull did to the source's count
+abbrev pub TurnCausesAfter : Result ℕ Failed → Option EngineOutcome → (sink sink' : ℕ) → Type 0
+TurnCausesAfter pulled outcome sink sink' = (before after : ℕ) → HasCause before after pulled → TurnCauses outcome before after sink sink'
 
 -- between two pulls: the bytes that the source lost were read
 pub record Running (e : Engine) (s : Settings) (left left' : Option (List ℕ)) (given : List ℕ) : Type 0 where

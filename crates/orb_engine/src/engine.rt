@@ -26,8 +26,8 @@ pub struct Engine {
 
 impl Engine {
     ghost use Rattle.std.specs.Prelude.{◌≡◌, ◌≤◌, ◌+◌, ◌^◌, ◌++◌, ℕ, List, [], length, Bool, true, IfOk, IsSome, None};
-    ghost use Rattle.orb_io.specs.Told.{Gives};
-    ghost use Rattle.orb_engine.specs.Reads.{Reads, Stops, Halts, HaltCause};
+    ghost use Rattle.orb_engine.specs.Steps.{Goes};
+    ghost use Rattle.orb_engine.specs.Reads.{Reads, Stops, Halts, HaltCause, HaltCauseAfter};
     ghost use Rattle.orb_engine.specs.declared.settings.Settings.{Settings};
     ghost use Rattle.orb_engine.specs.Runs.{settings_of, taken_by, allowed_by, blocked_by, HasRead, CanFeed, IsSpent, FeedAnswers, FeedCauses, EndsAs};
 
@@ -72,10 +72,8 @@ impl Engine {
     pub fn feed<O: Sink>(&mut self, piece: &[u8], output: &mut O) -> Option<EngineOutcome>
         requires can { CanFeed self.old }
         requires few { taken_by self.old + length piece.now ≤ 2 ^ 62 }
-        ensures answers { (s : Settings) (m given : List ℕ) → HasRead self.old s m given
-            → Gives (O.told output.old) (O.told output.new) given (FeedAnswers result self.new s (m ++ piece.now)) }
-        ensures causes { FeedCauses result (O.faults output.old) (O.faults output.new) }
-        ensures keeps { O.kept output.old output.new }
+        ensures goes { Goes O.Sink (FeedCauses result) output.old output.new
+            (HasRead self.old) (λ s m. FeedAnswers result self.new s (m ++ piece.now)) }
         ensures settings { settings_of self.new ≡ settings_of self.old }
         ensures taken { result ≡ None → taken_by self.new ≡ taken_by self.old + length piece.now }
         ensures spent { IsSome result → IsSpent self.new }
@@ -89,10 +87,8 @@ impl Engine {
     /// Ends the recording: where it ends, or `WriteFault`.
     pub fn end<O: Sink>(&mut self, output: &mut O) -> EngineOutcome
         requires { CanFeed self.old }
-        ensures answers { (s : Settings) (m given : List ℕ) → HasRead self.old s m given
-            → Gives (O.told output.old) (O.told output.new) given (EndsAs result self.new s m true) }
-        ensures causes { HaltCause result (O.faults output.old) (O.faults output.new) }
-        ensures keeps { O.kept output.old output.new }
+        ensures goes { Goes O.Sink (HaltCause result) output.old output.new
+            (HasRead self.old) (λ s m. EndsAs result self.new s m true) }
         ensures settings { settings_of self.new ≡ settings_of self.old }
         ensures spent { IsSpent self.new }
     {
@@ -116,10 +112,8 @@ impl Engine {
 
     /// Pushes what was gathered, where the recording is open.
     fn flush_open<O: Sink>(&mut self, output: &mut O) -> Option<EngineOutcome>
-        ensures answers { (s : Settings) (m given : List ℕ) → Reads self.old s m given → self.old.progress.taken ≤ 2 ^ 62
-            → Gives (O.told output.old) (O.told output.new) given (FeedAnswers result self.new s m) }
-        ensures causes { FeedCauses result (O.faults output.old) (O.faults output.new) }
-        ensures keeps { O.kept output.old output.new }
+        ensures goes { Goes O.Sink (FeedCauses result) output.old output.new
+            (λ s m given. Reads self.old s m given × (self.old.progress.taken ≤ 2 ^ 62)) (FeedAnswers result self.new) }
         ensures settings { settings_of self.new ≡ settings_of self.old }
         ensures taken { self.new.progress.taken ≡ self.old.progress.taken }
         ensures idle { IsSome result → self.new.state ≡ State.Idle }
@@ -139,10 +133,8 @@ impl Engine {
 
     /// Pushes what was gathered where the recording stops so.
     fn settle<O: Sink>(&mut self, stop: EngineOutcome, output: &mut O) -> EngineOutcome
-        ensures answers { (s : Settings) (m given : List ℕ) (ended : Bool) → Halts stop self.old s m ended given
-            → Gives (O.told output.old) (O.told output.new) given (EndsAs result self.new s m ended) }
-        ensures causes { (before : ℕ) → HaltCause stop before (O.faults output.old) → HaltCause result before (O.faults output.new) }
-        ensures keeps { O.kept output.old output.new }
+        ensures goes { (ended : Bool) → Goes O.Sink (HaltCauseAfter stop result) output.old output.new
+            (λ s m. Halts stop self.old s m ended) (λ s m. EndsAs result self.new s m ended) }
         ensures settings { settings_of self.new ≡ settings_of self.old }
         ensures idle { self.new.state ≡ State.Idle }
     {
@@ -159,10 +151,8 @@ impl Engine {
     /// The same, where the sink has not failed.
     fn flush_stop<O: Sink>(&mut self, stop: EngineOutcome, output: &mut O) -> EngineOutcome
         requires { stop ≡ EngineOutcome.WriteFault → ⊥ }
-        ensures answers { (s : Settings) (m given : List ℕ) (ended : Bool) → Stops stop self.old s m ended given
-            → Gives (O.told output.old) (O.told output.new) given (EndsAs result self.new s m ended) }
-        ensures causes { (before : ℕ) → HaltCause stop before (O.faults output.old) → HaltCause result before (O.faults output.new) }
-        ensures keeps { O.kept output.old output.new }
+        ensures goes { (ended : Bool) → Goes O.Sink (HaltCauseAfter stop result) output.old output.new
+            (λ s m. Stops stop self.old s m ended) (λ s m. EndsAs result self.new s m ended) }
         ensures settings { settings_of self.new ≡ settings_of self.old }
         ensures state { self.new.state ≡ self.old.state }
     {

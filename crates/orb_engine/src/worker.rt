@@ -53,11 +53,10 @@ impl Worker {
     ) -> Result<(), WriteFault>
         requires short { length head.now ≤ 65536 }
         requires made { (s : Settings) × (h : Case) × IsWorkerFor self.old s × AreFactsFor facts s h }
-        ensures delivers { (s : Settings) (h : Case) → IsWorkerFor self.old s → AreFactsFor facts s h
-            → Delivers result (O.told sink.old) (O.told sink.new)
-            [] (written_so_far s.job (response_of h head.now chunked) [])
-            (λ _. Works self.new s (response_of h head.now chunked) []) }
-        ensures calls { Calls O.Sink result sink.old sink.new }
+        ensures calls { Calls O.Sink result sink.old sink.new (λ told told'.
+            (s : Settings) (h : Case) → IsWorkerFor self.old s → AreFactsFor facts s h
+            → Delivers result told told' [] (written_so_far s.job (response_of h head.now chunked) [])
+            (λ _. Works self.new s (response_of h head.now chunked) [])) }
         ensures worker { (s : Settings) → IsWorkerFor self.old s → IsWorkerFor self.new s }
     {
         match self {
@@ -77,11 +76,10 @@ impl Worker {
         sink: &mut O,
     ) -> Result<(), WriteFault>
         requires { (s : Settings) × (x : Response) × (m : List ℕ) × Works self.old s x m }
-        ensures delivers { (s : Settings) (x : Response) (m : List ℕ) → Works self.old s x m
-            → Delivers result (O.told sink.old) (O.told sink.new)
-            (written_so_far s.job x m) (written_so_far s.job x (m ++ body.now))
-            (λ _. Works self.new s x (m ++ body.now)) }
-        ensures calls { Calls O.Sink result sink.old sink.new }
+        ensures calls { Calls O.Sink result sink.old sink.new (λ told told'.
+            (s : Settings) (x : Response) (m : List ℕ) → Works self.old s x m
+            → Delivers result told told' (written_so_far s.job x m) (written_so_far s.job x (m ++ body.now))
+            (λ _. Works self.new s x (m ++ body.now))) }
         ensures worker { (s : Settings) → IsWorkerFor self.old s → IsWorkerFor self.new s }
     {
         match self {
@@ -101,12 +99,12 @@ impl Worker {
         sink: &mut O,
     ) -> Result<Verdict, WriteFault>
         requires { (s : Settings) × (x : Response) × (m : List ℕ) × Works self.old s x m }
-        ensures delivers { (s : Settings) (x : Response) (m : List ℕ) → Works self.old s x m → size ≡ length m
-            → Delivers result (O.told sink.old) (O.told sink.new)
-            (written_so_far s.job x m) (written_whole s.job number x m) (λ v. IsVerdict x.judged m v) }
+        ensures calls { Calls O.Sink result sink.old sink.new (λ told told'.
+            (s : Settings) (x : Response) (m : List ℕ) → Works self.old s x m → size ≡ length m
+            → Delivers result told told' (written_so_far s.job x m) (written_whole s.job number x m)
+            (λ v. IsVerdict x.judged m v)) }
         ensures short { (s : Settings) (x : Response) (m : List ℕ) → Works self.old s x m → size ≡ length m
             → length (written_whole s.job number x m) ≤ length (written_so_far s.job x m) + length x.bytes + 2 * held_by self.old + 128 }
-        ensures calls { Calls O.Sink result sink.old sink.new }
         ensures worker { (s : Settings) → IsWorkerFor self.old s → IsWorkerFor self.new s }
     {
         match self {

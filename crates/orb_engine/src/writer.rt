@@ -68,9 +68,8 @@ impl Writer {
 
     /// Pushes what was gathered.
     pub(crate) fn flush<O: Sink>(&mut self, output: &mut O) -> Result<(), WriteFault>
-        ensures delivers { (given : List ℕ) → Delivers result (O.told output.old) (O.told output.new)
-            given (given ++ gathered_by self.old) (λ _. box_of self.new ≡ empty_outbox) }
-        ensures calls { Calls O.Sink result output.old output.new }
+        ensures calls { Calls O.Sink result output.old output.new (λ told told'.
+            (given : List ℕ) → Delivers result told told' given (given ++ gathered_by self.old) (λ _. box_of self.new ≡ empty_outbox)) }
         ensures same { IsSameBut self.old self.new }
     {
         match push_nonempty(self.outbox.as_slice(), output) {
@@ -92,11 +91,11 @@ impl Writer {
     ) -> Result<(), WriteFault>
         requires short { length head.now ≤ 65536 }
         requires made { (s : Settings) × (h : Case) × IsWriterFor self.old s × AreFactsFor facts s h }
-        ensures passes { (s : Settings) (h : Case) (given : List ℕ) → IsWriterFor self.old s → AreFactsFor facts s h
-            → Gives (O.told output.old) (O.told output.new) given (Passes result self.new
+        ensures calls { Calls O.Sink result output.old output.new (λ told told'.
+            (s : Settings) (h : Case) (given : List ℕ) → IsWriterFor self.old s → AreFactsFor facts s h
+            → Gives told told' given (Passes result self.new
             ((given ++ gathered_by self.old) ++ written_so_far s.job (response_of h head.now chunked) [])
-            (λ _. WriterReads self.new s (response_of h head.now chunked) [])) }
-        ensures calls { Calls O.Sink result output.old output.new }
+            (λ _. WriterReads self.new s (response_of h head.now chunked) []))) }
         ensures settings { self.new.settings ≡ self.old.settings }
     {
         self.head = head.len() as u64;
@@ -118,11 +117,11 @@ impl Writer {
     pub(crate) fn feed<O: Sink>(&mut self, body: &[u8], output: &mut O) -> Result<(), WriteFault>
         requires can { CanGoOn self.old }
         requires few { body_of self.old + length body.now ≤ 2 ^ 62 }
-        ensures passes { (s : Settings) (x : Response) (m given before : List ℕ) → WriterReads self.old s x m
+        ensures calls { Calls O.Sink result output.old output.new (λ told told'.
+            (s : Settings) (x : Response) (m given before : List ℕ) → WriterReads self.old s x m
             → given ++ gathered_by self.old ≡ before ++ written_so_far s.job x m
-            → Gives (O.told output.old) (O.told output.new) given (Passes result self.new
-            (before ++ written_so_far s.job x (m ++ body.now)) (λ _. WriterReads self.new s x (m ++ body.now))) }
-        ensures calls { Calls O.Sink result output.old output.new }
+            → Gives told told' given (Passes result self.new
+            (before ++ written_so_far s.job x (m ++ body.now)) (λ _. WriterReads self.new s x (m ++ body.now)))) }
         ensures settings { self.new.settings ≡ self.old.settings }
     {
         self.body += body.len() as u64;
@@ -146,11 +145,11 @@ impl Writer {
         output: &mut O,
     ) -> Result<Verdict, WriteFault>
         requires { CanGoOn self.old }
-        ensures passes { (s : Settings) (x : Response) (m given before : List ℕ) → WriterReads self.old s x m
+        ensures calls { Calls O.Sink result output.old output.new (λ told told'.
+            (s : Settings) (x : Response) (m given before : List ℕ) → WriterReads self.old s x m
             → given ++ gathered_by self.old ≡ before ++ written_so_far s.job x m
-            → Gives (O.told output.old) (O.told output.new) given (Passes result self.new
-            (before ++ written_whole s.job number x m) (λ v. IsVerdict x.judged m v × IsWriterFor self.new s)) }
-        ensures calls { Calls O.Sink result output.old output.new }
+            → Gives told told' given (Passes result self.new
+            (before ++ written_whole s.job number x m) (λ v. IsVerdict x.judged m v × IsWriterFor self.new s))) }
         ensures settings { self.new.settings ≡ self.old.settings }
     {
         if self.outbox.has_room(self.most(0)) {

@@ -1,11 +1,12 @@
 //! A whole run over a recording.
 ghost use Rattle.std.specs.Prelude.{◌≡◌, ◌≤◌, ◌<◌, ◌+◌, ◌^◌, ◌++◌, ℕ, List, [], Some, None, length};
 ghost use Rattle.std.specs.Result.{ForOk};
-ghost use Rattle.orb_io.specs.Told.{Gives, HasCause};
+ghost use Rattle.orb_io.specs.Told.{Gives};
 ghost use Rattle.orb_engine.specs.declared.settings.Settings.{Settings};
 ghost use Rattle.orb_engine.specs.declared.outcome.EngineOutcome.{EngineOutcome};
 ghost use Rattle.orb_engine.specs.Runs.{settings_of, taken_by, HasRead, CanFeed, Ran, RunCauses};
-ghost use Rattle.orb_engine.specs.Turns.{piece_of, is_ended, TurnAnswers, TurnCauses};
+ghost use Rattle.orb_engine.specs.Turns.{piece_of, is_ended, TurnAnswers, TurnCausesAfter};
+ghost use Rattle.orb_engine.specs.Steps.{Goes};
 
 use super::Engine;
 use crate::outcome::EngineOutcome;
@@ -64,12 +65,8 @@ impl Engine {
         requires within { ForOk pulled (λ n. n ≤ length room.now) }
         requires room { taken_by self.old ≤ 2 ^ 62 }
         requires few { ForOk pulled (λ n. taken_by self.old < 2 ^ 62 → taken_by self.old + n ≤ 2 ^ 62) }
-        ensures answers { (s : Settings) (m given : List ℕ) → HasRead self.old s m given
-            → Gives (O.told output.old) (O.told output.new) given
-            (TurnAnswers result self.new s (m ++ piece_of pulled room.now) (is_ended pulled)) }
-        ensures causes { (before after : ℕ) → HasCause before after pulled
-            → TurnCauses result before after (O.faults output.old) (O.faults output.new) }
-        ensures keeps { O.kept output.old output.new }
+        ensures goes { Goes O.Sink (TurnCausesAfter pulled result) output.old output.new
+            (HasRead self.old) (λ s m. TurnAnswers result self.new s (m ++ piece_of pulled room.now) (is_ended pulled)) }
         ensures settings { settings_of self.new ≡ settings_of self.old }
         ensures total { (o : EngineOutcome) → result ≡ Some o → (o ≡ EngineOutcome.Endless → ⊥)
             → taken_by self.old + length (piece_of pulled room.now) ≤ 2 ^ 62 }

@@ -114,7 +114,7 @@ impl Engine {
     fn step<O: Sink>(&mut self, piece: &[u8], output: &mut O) -> Result<usize, EngineOutcome>
         requires can { Meets (Reads self.old) }
         requires few { self.old.progress.taken + length piece.now ≤ 2 ^ 62 }
-        ensures goes { Goes O.Sink result output.old output.new
+        ensures goes { Goes O.Sink (Causes result) output.old output.new
             (Reads self.old) (λ s m. Steps result self.new s m piece.now) }
         ensures moves { 1 ≤ length piece.now → IfOk result (λ used. 1 ≤ used) }
         ensures settings { self.new.writer.settings ≡ self.old.writer.settings }
@@ -134,7 +134,7 @@ impl Engine {
     ) -> Result<(), EngineOutcome>
         requires can { Meets (Reads self.old) }
         requires few { self.old.progress.taken + length piece.now ≤ 2 ^ 62 }
-        ensures goes { Goes O.Sink result output.old output.new
+        ensures goes { Goes O.Sink (Causes result) output.old output.new
             (Reads self.old) (λ s m. Settles result self.new s (m ++ piece.now)) }
         ensures settings { self.new.writer.settings ≡ self.old.writer.settings }
     {
@@ -153,7 +153,7 @@ impl Engine {
         requires can { Meets (Reads self.old) }
         requires head { IsInHead self.old.state }
         requires few { self.old.progress.taken + length piece.now ≤ 2 ^ 62 }
-        ensures goes { Goes O.Sink result output.old output.new
+        ensures goes { Goes O.Sink (Causes result) output.old output.new
             (Reads self.old) (λ s m. Steps result self.new s m piece.now) }
         ensures moves { 1 ≤ length piece.now → IfOk result (λ used. 1 ≤ used) }
         ensures settings { self.new.writer.settings ≡ self.old.writer.settings }
@@ -190,7 +190,7 @@ impl Engine {
     fn read_head<O: Sink>(&mut self, output: &mut O) -> Result<(), EngineOutcome>
         requires can { Meets (HasHead IsHeadText self.old.state self.old) }
         requires few { self.old.progress.taken ≤ 2 ^ 62 }
-        ensures goes { Goes O.Sink result output.old output.new
+        ensures goes { Goes O.Sink (Causes result) output.old output.new
             (HasHead IsHeadText self.old.state self.old) (Settles result self.new) }
         ensures settings { self.new.writer.settings ≡ self.old.writer.settings }
     {
@@ -241,7 +241,7 @@ impl Engine {
     fn read_response<O: Sink>(&mut self, asked: Asked, output: &mut O) -> Result<(), EngineOutcome>
         requires can { Meets (HasResponse IsHeadText asked self.old) }
         requires few { self.old.progress.taken ≤ 2 ^ 62 }
-        ensures goes { Goes O.Sink result output.old output.new
+        ensures goes { Goes O.Sink (Causes result) output.old output.new
             (HasResponse IsHeadText asked self.old) (Settles result self.new) }
         ensures settings { self.new.writer.settings ≡ self.old.writer.settings }
     {
@@ -264,7 +264,7 @@ impl Engine {
     ) -> Result<(), EngineOutcome>
         requires can { Meets (HasReadHeads asked (facts, frame) self.old) }
         requires few { self.old.progress.taken ≤ 2 ^ 62 }
-        ensures goes { Goes O.Sink result output.old output.new
+        ensures goes { Goes O.Sink (Causes result) output.old output.new
             (HasReadHeads asked (facts, frame) self.old) (Settles result self.new) }
         ensures settings { self.new.writer.settings ≡ self.old.writer.settings }
     {
@@ -290,7 +290,7 @@ impl Engine {
         requires can { Meets (Reads self.old) }
         requires body { IsInBody self.old.state }
         requires few { self.old.progress.taken + length piece.now ≤ 2 ^ 62 }
-        ensures goes { Goes O.Sink result output.old output.new
+        ensures goes { Goes O.Sink (Causes result) output.old output.new
             (Reads self.old) (λ s m. Steps result self.new s m piece.now) }
         ensures moves { 1 ≤ length piece.now → IfOk result (λ used. 1 ≤ used) }
         ensures settings { self.new.writer.settings ≡ self.old.writer.settings }
@@ -317,7 +317,7 @@ impl Engine {
     fn settle_body<O: Sink>(&mut self, output: &mut O) -> Result<(), EngineOutcome>
         requires can { Meets (FillsAt self.old.state self.old) }
         requires few { self.old.progress.taken ≤ 2 ^ 62 }
-        ensures goes { Goes O.Sink result output.old output.new
+        ensures goes { Goes O.Sink (Causes result) output.old output.new
             (FillsAt self.old.state self.old) (Settles result self.new) }
         ensures settings { self.new.writer.settings ≡ self.old.writer.settings }
     {
@@ -335,10 +335,8 @@ impl Engine {
     fn close<O: Sink>(&mut self, id: Option<u64>, output: &mut O) -> Result<(), EngineOutcome>
         requires can { (s : Settings) × (c : Coming) × (given : List ℕ) × IsClosing self.old s c id given }
         requires few { self.old.progress.counts.allowed + self.old.progress.counts.blocked < 2 ^ 62 }
-        ensures closes { (s : Settings) (c : Coming) (given : List ℕ) → IsClosing self.old s c id given
-            → Gives (O.told output.old) (O.told output.new) given (Closes result self.new s c) }
-        ensures causes { Causes result (O.faults output.old) (O.faults output.new) }
-        ensures keeps { O.kept output.old output.new }
+        ensures goes { Goes O.Sink (Causes result) output.old output.new
+            (λ s c. IsClosing self.old s c id) (Closes result self.new) }
         ensures taken { self.new.progress.taken ≡ self.old.progress.taken }
         ensures settings { self.new.writer.settings ≡ self.old.writer.settings }
     {
@@ -359,10 +357,8 @@ impl Engine {
     pub(crate) fn finish<O: Sink>(&mut self, output: &mut O) -> EngineOutcome
         requires can { Meets (Reads self.old) }
         requires few { self.old.progress.taken ≤ 2 ^ 62 }
-        ensures halts { (s : Settings) (m given : List ℕ) → Reads self.old s m given
-            → Gives (O.told output.old) (O.told output.new) given (Halts result self.new s m true) }
-        ensures causes { HaltCause result (O.faults output.old) (O.faults output.new) }
-        ensures keeps { O.kept output.old output.new }
+        ensures goes { Goes O.Sink (HaltCause result) output.old output.new
+            (Reads self.old) (λ s m. Halts result self.new s m true) }
         ensures settings { settings_of self.new ≡ settings_of self.old }
     {
         let cut = EngineOutcome::Cut {

@@ -5,6 +5,6 @@ pub pieces-preserved : goal.pieces-preserved
 pieces-preserved c =
     let can = c.pieces.invariant.can in
     record {
-      can = record { x = can.x; m = _; reads = (c.in_ok-feed.ensures.delivers can.x can.m can.reads).holds.1 };
+      can = record { x = can.x; m = _; reads = (c.in_ok-feed.ensures.calls.tells can.x can.m can.reads).holds.1 };
       limit = c.in_ok-feed.ensures.limit ∙ c.pieces.invariant.limit;
     }

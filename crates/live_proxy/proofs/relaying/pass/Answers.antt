@@ -45,48 +45,60 @@ runs-preserved g c =
           Gives-weaker _ _ (given ++ more) _ _
           (λ further owes. got x _ _ _ _ bytes c.runs.rest.now _ (given ++ more) _ c.in-Got.body.now c.in-Got.used w gets refl owes.1 owes.0
           c.split_at.ensures.back)
-          (Delivers-as _ _ put _ (given ++ more) _ _ reads reads w.gave refl (λ _ h. h) (c.in-Ok.ensures.delivers x' w.body w.filter)));
+          (Delivers-as _ _ put _ (given ++ more) _ _ reads reads w.gave refl (λ _ h. h) (c.in-Ok.ensures.calls.tells x' w.body w.filter)));
       faults = c.in-Ok.ensures.calls.cause ∙ i.faults;
       kept = g.met.K.Sink.kept_transitive _ _ _ i.kept c.in-Ok.ensures.calls.keeps;
       limit = c.in-Ok.ensures.limit ∙ i.limit;
     }
 
-pub returns-in-Err-clause-passes : goal.returns-in-Err-clause-passes
-returns-in-Err-clause-passes g c = λ x bytes given h.
-    let put : Result (Unit {0}) WriteFault = Err c.in-Err.field-0 in
-    Gives-then _ _ _ given _ _ (c.runs.invariant.passes x bytes given h) (λ more w.
-    let gets = c.in-Got.ensures.answers w.text.frame w.sent w.body w.unframer in
-    let x' = response_in x w.text in
-    Gives-weaker _ _ (given ++ more) _ _
-    (λ further within. got-fails x _ _ _ bytes c.runs.rest.now (given ++ more) _ c.in-Got.body.now c.in-Got.used w gets within)
-    (Delivers-as _ _ put _ (given ++ more) _ _ (λ _. Unit {0}) (λ _. Unit {0}) w.gave refl (λ _ never. never) (c.in-Err.ensures.delivers x' w.body w.filter)))
+pub returns-in-Err-clause-acts : goal.returns-in-Err-clause-acts
+returns-in-Err-clause-acts g c = record {
+  tells = λ x bytes given h.
+      let put : Result (Unit {0}) WriteFault = Err c.in-Err.field-0 in
+      Gives-then _ _ _ given _ _ (c.runs.invariant.passes x bytes given h) (λ more w.
+      let gets = c.in-Got.ensures.answers w.text.frame w.sent w.body w.unframer in
+      let x' = response_in x w.text in
+      Gives-weaker _ _ (given ++ more) _ _
+      (λ further within. got-fails x _ _ _ bytes c.runs.rest.now (given ++ more) _ c.in-Got.body.now c.in-Got.used w gets within)
+      (Delivers-as _ _ put _ (given ++ more) _ _ (λ _. Unit {0}) (λ _. Unit {0}) w.gave refl (λ _ never. never) (c.in-Err.ensures.calls.tells x' w.body w.filter)));
+  cause = rw (← c.runs.invariant.faults) c.in-Err.ensures.calls.cause;
+  keeps = g.met.K.Sink.kept_transitive _ _ _ c.runs.invariant.kept c.in-Err.ensures.calls.keeps;
+}
 
-pub returns-in-Err-clause-keeps : goal.returns-in-Err-clause-keeps
-returns-in-Err-clause-keeps g c =
-    g.met.K.Sink.kept_transitive _ _ _ c.runs.invariant.kept c.in-Err.ensures.calls.keeps
+pub returns-in-Bad-clause-acts : goal.returns-in-Bad-clause-acts
+returns-in-Bad-clause-acts g c = record {
+  tells = λ x bytes given h.
+      Gives-weaker _ _ given _ _
+      (λ more w. bad x _ _ _ bytes c.runs.rest.now _ c.in-Bad.at w (c.in-Bad.ensures.answers w.text.frame w.sent w.body w.unframer))
+      (c.runs.invariant.passes x bytes given h);
+  cause = c.runs.invariant.faults;
+  keeps = c.runs.invariant.kept;
+}
 
-pub returns-in-Bad-clause-passes : goal.returns-in-Bad-clause-passes
-returns-in-Bad-clause-passes g c = λ x bytes given h.
-    Gives-weaker _ _ given _ _
-    (λ more w. bad x _ _ _ bytes c.runs.rest.now _ c.in-Bad.at w (c.in-Bad.ensures.answers w.text.frame w.sent w.body w.unframer))
-    (c.runs.invariant.passes x bytes given h)
+pub returns-else-not-is_whole-clause-acts : goal.returns-else-not-is_whole-clause-acts
+returns-else-not-is_whole-clause-acts g c = record {
+  tells = λ x bytes given h.
+      Gives-weaker _ _ given _ _
+      (λ more w. record {
+        rest = c.runs.rest.now;
+        receives = w;
+        none = λ open_. absurd (false≢true (sym open_ ∙ sym c.is_whole.ensures.value ∙ c.if-not-is_whole.false));
+      })
+      (c.runs.invariant.passes x bytes given h);
+  cause = c.runs.invariant.faults;
+  keeps = c.runs.invariant.kept;
+}
 
-pub returns-else-not-is_whole-clause-passes : goal.returns-else-not-is_whole-clause-passes
-returns-else-not-is_whole-clause-passes g c = λ x bytes given h.
-    Gives-weaker _ _ given _ _
-    (λ more w. record {
-      rest = c.runs.rest.now;
-      receives = w;
-      none = λ open_. absurd (false≢true (sym open_ ∙ sym c.is_whole.ensures.value ∙ c.if-not-is_whole.false));
-    })
-    (c.runs.invariant.passes x bytes given h)
-
-pub returns-after-runs-clause-passes : goal.returns-after-runs-clause-passes
-returns-after-runs-clause-passes g c = λ x bytes given h.
-    Gives-weaker _ _ given _ _
-    (λ more w. record {
-      rest = c.runs.rest.now;
-      receives = w;
-      none = λ _. nil_from_length _ (eqb-true _ _ (sym c.is_empty.ensures ∙ c.runs-test.false));
-    })
-    (c.runs.invariant.passes x bytes given h)
+pub returns-after-runs-clause-acts : goal.returns-after-runs-clause-acts
+returns-after-runs-clause-acts g c = record {
+  tells = λ x bytes given h.
+      Gives-weaker _ _ given _ _
+      (λ more w. record {
+        rest = c.runs.rest.now;
+        receives = w;
+        none = λ _. nil_from_length _ (eqb-true _ _ (sym c.is_empty.ensures ∙ c.runs-test.false));
+      })
+      (c.runs.invariant.passes x bytes given h);
+  cause = c.runs.invariant.faults;
+  keeps = c.runs.invariant.kept;
+}

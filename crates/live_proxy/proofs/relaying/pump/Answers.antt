@@ -88,13 +88,13 @@ returns-in-Err-clause-pumps g c = λ x bytes given h is.
     pumped _ _ _ _ bytes w.read piece _ false _ w.lost c.in-Ok.ensures.bytes.0 (λ never. absurd (false≢true never))
     (λ _. omega (arith, c.in-Ok.ensures.few, c.pulls.invariant.few, w.taken_is, length-append (bytes ++ w.read) piece, length-take c.in-Ok.count c.pull_within.new.room))
     stops)
-    (c.in-Err.ensures.passes x _ (given ++ more) (fed x _ _ _ piece _ w.passed pending)))
+    (c.in-Err.ensures.acts.tells x _ (given ++ more) (fed x _ _ _ piece _ w.passed pending)))
 
 pub returns-in-Err-clause-causes : goal.returns-in-Err-clause-causes
 returns-in-Err-clause-causes g c =
     let put : Result (Unit {0}) ProxyOutcome = Err c.in-Err.outcome in
     relay-cause-after put _ _ _ _ _ (c.in-Ok.ensures.cause ∙ c.pulls.invariant.source) c.pulls.invariant.client
-    c.in-Err.ensures.cause
+    c.in-Err.ensures.acts.cause
 
 pub pulls-preserved : goal.pulls-preserved
 pulls-preserved g c =
@@ -117,13 +117,13 @@ pulls-preserved g c =
               c.in-Ok.ensures.bound,
             );
           })
-          (c.in-Ok-pass.ensures.passes x _ (given ++ more) (fed x _ _ _ piece _ w.passed pending)));
+          (c.in-Ok-pass.ensures.acts.tells x _ (given ++ more) (fed x _ _ _ piece _ w.passed pending)));
       few = omega (arith, c.in-Ok.ensures.few, i.few);
       room = omega (arith, i.room, c.pull_within.ensures.room);
       source = c.in-Ok.ensures.cause ∙ i.source;
-      client = c.in-Ok-pass.ensures.cause ∙ i.client;
+      client = c.in-Ok-pass.ensures.acts.cause ∙ i.client;
       keeps_upstream = g.met.U.Source.kept_transitive _ _ _ i.keeps_upstream c.pull_within.ensures.keeps;
-      keeps_client = g.met.K.Sink.kept_transitive _ _ _ i.keeps_client c.in-Ok-pass.ensures.keeps;
+      keeps_client = g.met.K.Sink.kept_transitive _ _ _ i.keeps_client c.in-Ok-pass.ensures.acts.keeps;
       limit = c.in-Ok-pass.ensures.limit ∙ i.limit;
     }
 

@@ -36,12 +36,12 @@ returns-in-Err-clause-relays g c =
     (pulled-none _ _ (c.gather.new.head ++ rest) _ _
     (few-come c.gather.new.head rest lost.holds.text (omega (arith, length-drop came.used (take came.count c.gather.new.room), length-take came.count c.gather.new.room, c.gather.ensures.size)))
     stops))
-    (c.in-Err.ensures.begins rest)
+    (c.in-Err.ensures.acts.tells rest)
 
 pub relay_body-requires-clause-can : goal.relay_body-requires-clause-can
 relay_body-requires-clause-can g c =
     let rest = drop c.in-Ok.came.used (take c.in-Ok.came.count c.gather.new.room) in
-    let begins = c.in-Ok-begin.ensures.begins rest in (
+    let begins = c.in-Ok-begin.ensures.acts.tells rest in (
       c.args.context,
       _,
       _,
@@ -54,7 +54,7 @@ pub returns-clause-relays : goal.returns-clause-relays
 returns-clause-relays g c =
     let lost = c.in-Ok.ensures.gathers in
     let rest = drop c.in-Ok.came.used (take c.in-Ok.came.count c.gather.new.room) in
-    Gives-then _ _ _ [] _ _ (c.in-Ok-begin.ensures.begins rest) (λ more begun.
+    Gives-then _ _ _ [] _ _ (c.in-Ok-begin.ensures.acts.tells rest) (λ more begun.
     Gives-weaker _ _ more _ _ (λ further p.
     pulled-after _ _ _ _ (c.gather.new.head ++ rest) _ _ (rw (← lost.holds.is) lost.lost) p)
     (c.relay_body.ensures.relays c.args.context (c.gather.new.head ++ rest) more begun

@@ -8,7 +8,7 @@ returns-in-Ok-push_nonempty-clause-wrote g c =
     Gives-of _ _ [] _ _ c.in-Ok-push_nonempty.ensures.puts.bytes (
       refl,
       line_is c.trial_run.new.engine _ c.args.seed c.args.count _ _ _ _ c.count.result c.as_slice.result.now
-          (c.in-Ok.ensures.settings ∙ c.settings.ensures) c.requires.count c.new-written.ensures c.in-Done.ensures.answers
+          (c.in-Ok.ensures.settings ∙ c.settings.ensures) c.requires.count c.new-written.ensures c.in-Done.ensures.acts.tells
           c.allowed.ensures c.blocked.ensures c.count.ensures.size (c.as_slice.ensures.value ∙ c.line-line.ensures),
     )
 
@@ -19,7 +19,7 @@ returns-clause-wrote g c =
       refl,
       c.as_slice.result.now,
       line_is c.trial_run.new.engine _ c.args.seed c.args.count _ _ _ _ c.count.result c.as_slice.result.now
-          (c.in-Ok.ensures.settings ∙ c.settings.ensures) c.requires.count c.new-written.ensures c.in-Done.ensures.answers
+          (c.in-Ok.ensures.settings ∙ c.settings.ensures) c.requires.count c.new-written.ensures c.in-Done.ensures.acts.tells
           c.allowed.ensures c.blocked.ensures c.count.ensures.size (c.as_slice.ensures.value ∙ c.line-line.ensures),
       written.1,
     )

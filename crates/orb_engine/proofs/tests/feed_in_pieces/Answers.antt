@@ -13,7 +13,7 @@ goes_on r e s m given is answers =
 pub pieces-preserved : goal.pieces-preserved
 pieces-preserved c =
     let can = c.pieces.invariant.can in
-    let fed = c.feed.ensures.answers can.s can.m can.given can.reads in
+    let fed = c.feed.ensures.goes.tells can.s can.m can.given can.reads in
     record {
       can = goes_on c.feed.result c.feed.new.self can.s _ (can.given ++ fed.more) c.in_default.is fed.holds;
       few = omega (arith, c.pieces.invariant.few, c.feed.ensures.taken c.in_default.is);

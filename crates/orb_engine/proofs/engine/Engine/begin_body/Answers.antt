@@ -15,7 +15,7 @@ settle_body-requires-clause-can g c =
     let h = (begun c.args.asked read c.args.self.now s m given q).heads in
     let x = same-exchange c.args.asked read c.args.self.now s m given q c.as_slice.result.now c.is_chunked-chunked.result
     c.as_slice.ensures.value c.is_chunked-chunked.ensures in
-    let passed = c.in-Ok.ensures.passes s (judged_by s (table_of q.whole.exchanges) h) given q.whole.writer q.facts in (
+    let passed = c.in-Ok.ensures.calls.tells s (judged_by s (table_of q.whole.exchanges) h) given q.whole.writer q.facts in (
       s,
       m,
       given ++ passed.more,
@@ -26,23 +26,23 @@ settle_body-requires-clause-can g c =
 
 pub returns-in-Ok-clause-goes : goal.returns-in-Ok-clause-goes
 returns-in-Ok-clause-goes g c = record {
-  gives = λ s m given q.
+  tells = λ s m given q.
       let read : Facts × BodyFrame = (c.args.facts, c.args.frame) in
       let h = (begun c.args.asked read c.args.self.now s m given q).heads in
       let x = same-exchange c.args.asked read c.args.self.now s m given q c.as_slice.result.now c.is_chunked-chunked.result
       c.as_slice.ensures.value c.is_chunked-chunked.ensures in
-      Gives-then _ _ _ given _ _ (c.in-Ok.ensures.passes s (judged_by s (table_of q.whole.exchanges) h) given q.whole.writer q.facts)
-      (λ more passed. c.settle_body.ensures.goes.gives s m (given ++ more)
+      Gives-then _ _ _ given _ _ (c.in-Ok.ensures.calls.tells s (judged_by s (table_of q.whole.exchanges) h) given q.whole.writer q.facts)
+      (λ more passed. c.settle_body.ensures.goes.tells s m (given ++ more)
       (begun-fills _ c.args.asked read c.args.self.now _ s m given more q _
       (record { media = refl; offset = refl; taken = refl; counts = refl; told = refl; settings = c.in-Ok.ensures.settings })
       x passed.0 passed.1 c.new.ensures c.is_to_end.ensures c.id_of.ensures));
-  causes = Causes-after c.settle_body.result _ _ _ c.in-Ok.ensures.calls.cause c.settle_body.ensures.goes.causes;
+  cause = Causes-after c.settle_body.result _ _ _ c.in-Ok.ensures.calls.cause c.settle_body.ensures.goes.cause;
   keeps = g.met.O.Sink.kept_transitive _ _ _ c.in-Ok.ensures.calls.keeps c.settle_body.ensures.goes.keeps;
 }
 
 pub returns-in-Err-clause-goes : goal.returns-in-Err-clause-goes
 returns-in-Err-clause-goes g c = record {
-  gives = λ s m given q.
+  tells = λ s m given q.
       let read : Facts × BodyFrame = (c.args.facts, c.args.frame) in
       let h = (begun c.args.asked read c.args.self.now s m given q).heads in
       let x = same-exchange c.args.asked read c.args.self.now s m given q c.as_slice.result.now c.is_chunked-chunked.result
@@ -51,7 +51,7 @@ returns-in-Err-clause-goes g c = record {
       begun-breaks c.args.asked read c.args.self.now _ s m given more q _
       (record { media = refl; offset = refl; taken = refl; counts = refl; told = refl; settings = c.in-Err.ensures.settings })
       x within)
-      (c.in-Err.ensures.passes s (judged_by s (table_of q.whole.exchanges) h) given q.whole.writer q.facts);
-  causes = c.in-Err.ensures.calls.cause;
+      (c.in-Err.ensures.calls.tells s (judged_by s (table_of q.whole.exchanges) h) given q.whole.writer q.facts);
+  cause = c.in-Err.ensures.calls.cause;
   keeps = c.in-Err.ensures.calls.keeps;
 }

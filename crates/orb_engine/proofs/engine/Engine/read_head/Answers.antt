@@ -7,11 +7,11 @@ use Rattle.orb_engine.proofs.engine.Engine.read_head.Goals as goal
 
 pub returns-in-RequestHead-clause-goes : goal.returns-in-RequestHead-clause-goes
 returns-in-RequestHead-clause-goes g c = record {
-  gives = λ s m given h.
+  tells = λ s m given h.
       Gives-none _ given _ (g.met.O.Sink.told_agrees c.args.output.now)
       (c.read_request.ensures.settles s m given
       (subst (λ (t : State). HasHead IsHeadText t c.args.self.now s m given) c.in-RequestHead.is h));
-  causes = c.read_request.ensures.no_faults _;
+  cause = c.read_request.ensures.no_faults _;
   keeps = g.met.O.Sink.kept_reflexive c.args.output.now;
 }
 
@@ -19,7 +19,7 @@ pub returns-in-ResponseHead-clause-goes : goal.returns-in-ResponseHead-clause-go
 returns-in-ResponseHead-clause-goes g c =
     let went = c.read_response.ensures.goes in
     record {
-      gives = λ s m given h. went.gives s m given (subst (λ (t : State). HasHead IsHeadText t c.args.self.now s m given) c.in-ResponseHead.is h);
-      causes = went.causes;
+      tells = λ s m given h. went.tells s m given (subst (λ (t : State). HasHead IsHeadText t c.args.self.now s m given) c.in-ResponseHead.is h);
+      cause = went.cause;
       keeps = went.keeps;
     }

@@ -21,13 +21,13 @@ steps-init g c = record {
 pub split_at-requires : goal.split_at-requires
 split_at-requires g c =
     let (s, m, given, r) = c.steps.invariant.can in
-    (c.in-Ok.ensures.goes.gives s m given r).holds.0
+    (c.in-Ok.ensures.goes.tells s m given r).holds.0
 
 pub steps-preserved : goal.steps-preserved
 steps-preserved g c =
     let i = c.steps.invariant in
     let (s0, m0, given0, r0) = i.can in
-    let step0 = c.in-Ok.ensures.goes.gives s0 m0 given0 r0 in
+    let step0 = c.in-Ok.ensures.goes.tells s0 m0 given0 r0 in
     let piece = take c.in-Ok.used c.steps.rest.now in
     record {
       prefix = i.prefix ++ piece;
@@ -38,35 +38,35 @@ steps-preserved g c =
       goes = λ s m given r. Gives-then _ _ _ given _ _ (i.goes s m given r) (λ more reads.
           Gives-weaker _ _ (given ++ more) _ _
           (λ further step. subst (λ (x : List ℕ). Reads c.step.new.self s x ((given ++ more) ++ further)) (append_assoc m i.prefix piece) step.1)
-          (c.in-Ok.ensures.goes.gives s (m ++ i.prefix) (given ++ more) reads));
-      no_faults = c.in-Ok.ensures.goes.causes ∙ i.no_faults;
+          (c.in-Ok.ensures.goes.tells s (m ++ i.prefix) (given ++ more) reads));
+      no_faults = c.in-Ok.ensures.goes.cause ∙ i.no_faults;
       keeps = g.met.O.Sink.kept_transitive _ _ _ i.keeps c.in-Ok.ensures.goes.keeps;
       settings = c.in-Ok.ensures.settings ∙ i.settings;
     }
 
 pub returns-in-Err-clause-goes : goal.returns-in-Err-clause-goes
 returns-in-Err-clause-goes g c = record {
-  gives = λ s m given r.
+  tells = λ s m given r.
       let i = c.steps.invariant in
       Gives-then _ _ _ given _ _ (i.goes s m given r) (λ more reads.
       Gives-weaker _ _ (given ++ more) _ _
       (λ further halts. subst (λ (x : List ℕ). Halts c.in-Err.stop c.step.new.self s x false ((given ++ more) ++ further))
       (append_assoc m i.prefix c.steps.rest.now ∙ ap (λ x. m ++ x) (sym i.cut)) halts)
-      (c.in-Err.ensures.goes.gives s (m ++ i.prefix) (given ++ more) reads));
-  causes = HaltCause-after c.in-Err.stop _ _ _ c.steps.invariant.no_faults c.in-Err.ensures.goes.causes;
+      (c.in-Err.ensures.goes.tells s (m ++ i.prefix) (given ++ more) reads));
+  cause = HaltCause-after c.in-Err.stop _ _ _ c.steps.invariant.no_faults c.in-Err.ensures.goes.cause;
   keeps = g.met.O.Sink.kept_transitive _ _ _ c.steps.invariant.keeps c.in-Err.ensures.goes.keeps;
 }
 
 pub returns-clause-goes : goal.returns-clause-goes
 returns-clause-goes g c = record {
-  gives = λ s m given r.
+  tells = λ s m given r.
       let i = c.steps.invariant in
       let empty : c.steps.rest.now ≡ [] = nil_from_length _ (eqb-true _ _ (sym c.is_empty.ensures ∙ c.steps-test.false)) in
       Gives-weaker _ _ given _ _
       (λ more reads. subst (λ (x : List ℕ). Reads c.steps.self s x (given ++ more))
       (ap (λ x. m ++ x) (sym (i.cut ∙ ap (λ x. i.prefix ++ x) empty ∙ append-nil i.prefix))) reads)
       (i.goes s m given r);
-  causes = c.steps.invariant.no_faults;
+  cause = c.steps.invariant.no_faults;
   keeps = c.steps.invariant.keeps;
 }
 

@@ -35,7 +35,7 @@ settle_body-requires-clause-can g c =
     let p = body-got i u e e1 s m given c.args.piece.now c.in-Got.body.now c.in-Got.used h (took e e1 c.in-Got.used refl refl c.advance.ensures)
     (took_.answers h.coming.heads.response.frame h.coming.sent h.coming.body h.receives.unframer)
     (ap (λ (p : Progress). p.taken) c.advance.ensures) in
-    let passed = c.in-Ok.ensures.passes s (coming_response s p.coming) p.coming.body given (written_exchanges s map.empty 0 p.coming.exchanges) p.writer p.gave in (
+    let passed = c.in-Ok.ensures.calls.tells s (coming_response s p.coming) p.coming.body given (written_exchanges s map.empty 0 p.coming.exchanges) p.writer p.gave in (
       s,
       m ++ take c.in-Got.used c.args.piece.now,
       given ++ passed.more,
@@ -65,7 +65,7 @@ returns-in-Ok-settle_body-clause-moves g c = λ some.
 
 pub returns-in-Bad-clause-goes : goal.returns-in-Bad-clause-goes
 returns-in-Bad-clause-goes g c = record {
-  gives = λ s m given r.
+  tells = λ s m given r.
       let e = c.args.self.now in
       let (i, is) = in-body e.state c.requires.body in
       let u = c.in-Bad.ensures i is in
@@ -74,13 +74,13 @@ returns-in-Bad-clause-goes g c = record {
       (rw c.taken.ensures (body-bad i u.unframer e _ s m given c.args.piece.now c.in-Bad.at h
       (record { media = refl; offset = refl; counts = refl; told = refl; writer = refl })
       (u.answers h.coming.heads.response.frame h.coming.sent h.coming.body h.receives.unframer)));
-  causes = refl;
+  cause = refl;
   keeps = g.met.O.Sink.kept_reflexive c.args.output.now;
 }
 
 pub returns-in-Ok-settle_body-clause-goes : goal.returns-in-Ok-settle_body-clause-goes
 returns-in-Ok-settle_body-clause-goes g c = record {
-  gives = λ s m given r.
+  tells = λ s m given r.
       let e = c.args.self.now in
       let (i, is) = in-body e.state c.requires.body in
       let took_ = c.in-Got.ensures i is in
@@ -90,19 +90,19 @@ returns-in-Ok-settle_body-clause-goes g c = record {
       let p = body-got i u e e1 s m given c.args.piece.now c.in-Got.body.now c.in-Got.used h (took e e1 c.in-Got.used refl refl c.advance.ensures)
       (took_.answers h.coming.heads.response.frame h.coming.sent h.coming.body h.receives.unframer)
       (ap (λ (p : Progress). p.taken) c.advance.ensures) in
-      Gives-then _ _ _ given _ _ (c.in-Ok.ensures.passes s (coming_response s p.coming) p.coming.body given (written_exchanges s map.empty 0 p.coming.exchanges) p.writer p.gave)
+      Gives-then _ _ _ given _ _ (c.in-Ok.ensures.calls.tells s (coming_response s p.coming) p.coming.body given (written_exchanges s map.empty 0 p.coming.exchanges) p.writer p.gave)
       (λ more passed. Gives-weaker _ _ (given ++ more) _ _ (λ further reads. ((took_.answers h.coming.heads.response.frame h.coming.sent h.coming.body h.receives.unframer).within, reads))
-      (c.in-Ok-settle_body.ensures.goes.gives s (m ++ take c.in-Got.used c.args.piece.now) (given ++ more)
+      (c.in-Ok-settle_body.ensures.goes.tells s (m ++ take c.in-Got.used c.args.piece.now) (given ++ more)
       (fills-at _ (with_unframer i u) _ s _ _ (search)
       (passed-fills (with_unframer i u) e1 _ s _ c.in-Got.body.now given more p
       (record { media = refl; offset = refl; taken = refl; counts = refl; told = refl; settings = c.in-Ok.ensures.settings }) passed.0 passed.1))));
-  causes = c.in-Ok-settle_body.ensures.goes.causes ∙ c.in-Ok.ensures.calls.cause;
+  cause = c.in-Ok-settle_body.ensures.goes.cause ∙ c.in-Ok.ensures.calls.cause;
   keeps = g.met.O.Sink.kept_transitive _ _ _ c.in-Ok.ensures.calls.keeps c.in-Ok-settle_body.ensures.goes.keeps;
 }
 
 pub returns-in-Err-settle_body-clause-goes : goal.returns-in-Err-settle_body-clause-goes
 returns-in-Err-settle_body-clause-goes g c = record {
-  gives = λ s m given r.
+  tells = λ s m given r.
       let e = c.args.self.now in
       let (i, is) = in-body e.state c.requires.body in
       let took_ = c.in-Got.ensures i is in
@@ -112,20 +112,20 @@ returns-in-Err-settle_body-clause-goes g c = record {
       let p = body-got i u e e1 s m given c.args.piece.now c.in-Got.body.now c.in-Got.used h (took e e1 c.in-Got.used refl refl c.advance.ensures)
       (took_.answers h.coming.heads.response.frame h.coming.sent h.coming.body h.receives.unframer)
       (ap (λ (p : Progress). p.taken) c.advance.ensures) in
-      Gives-then _ _ _ given _ _ (c.in-Ok.ensures.passes s (coming_response s p.coming) p.coming.body given (written_exchanges s map.empty 0 p.coming.exchanges) p.writer p.gave)
+      Gives-then _ _ _ given _ _ (c.in-Ok.ensures.calls.tells s (coming_response s p.coming) p.coming.body given (written_exchanges s map.empty 0 p.coming.exchanges) p.writer p.gave)
       (λ more passed. Gives-weaker _ _ (given ++ more) _ _
       (λ further halts. halts-piece c.in-Err-settle_body.stop _ s m c.args.piece.now ((given ++ more) ++ further) c.in-Got.used halts)
-      (c.in-Err-settle_body.ensures.goes.gives s (m ++ take c.in-Got.used c.args.piece.now) (given ++ more)
+      (c.in-Err-settle_body.ensures.goes.tells s (m ++ take c.in-Got.used c.args.piece.now) (given ++ more)
       (fills-at _ (with_unframer i u) _ s _ _ (search)
       (passed-fills (with_unframer i u) e1 _ s _ c.in-Got.body.now given more p
       (record { media = refl; offset = refl; taken = refl; counts = refl; told = refl; settings = c.in-Ok.ensures.settings }) passed.0 passed.1))));
-  causes = HaltCause-after c.in-Err-settle_body.stop _ _ _ c.in-Ok.ensures.calls.cause c.in-Err-settle_body.ensures.goes.causes;
+  cause = HaltCause-after c.in-Err-settle_body.stop _ _ _ c.in-Ok.ensures.calls.cause c.in-Err-settle_body.ensures.goes.cause;
   keeps = g.met.O.Sink.kept_transitive _ _ _ c.in-Ok.ensures.calls.keeps c.in-Err-settle_body.ensures.goes.keeps;
 }
 
 pub returns-in-Err-clause-goes : goal.returns-in-Err-clause-goes
 returns-in-Err-clause-goes g c = record {
-  gives = λ s m given r.
+  tells = λ s m given r.
       let e = c.args.self.now in
       let (i, is) = in-body e.state c.requires.body in
       let took_ = c.in-Got.ensures i is in
@@ -138,7 +138,7 @@ returns-in-Err-clause-goes g c = record {
       Gives-weaker _ _ given _ _ (λ more within. halts-piece outcome.WriteFault _ s m c.args.piece.now (given ++ more) c.in-Got.used
       (passed-breaks (with_unframer i u) e1 _ s _ c.in-Got.body.now given more p
       (record { media = refl; offset = refl; taken = refl; counts = refl; told = refl; settings = c.in-Err.ensures.settings }) within))
-      (c.in-Err.ensures.passes s (coming_response s p.coming) p.coming.body given (written_exchanges s map.empty 0 p.coming.exchanges) p.writer p.gave);
-  causes = c.in-Err.ensures.calls.cause;
+      (c.in-Err.ensures.calls.tells s (coming_response s p.coming) p.coming.body given (written_exchanges s map.empty 0 p.coming.exchanges) p.writer p.gave);
+  cause = c.in-Err.ensures.calls.cause;
   keeps = c.in-Err.ensures.calls.keeps;
 }
