@@ -1,5 +1,5 @@
 -- The answers of a run exclude one another: bytes show one thing at most.
-use Rattle.std.proofs.Common.{◌≡◌, ℕ, ◌-◌, ◌<◌, ◌≤◌, Bool, true, false, List, [], ◌∷◌, ◌++◌, ◌⊎◌, length, take, Some, Ok, Err, inl, inr, refl, sym, ap, subst, ◌∙◌, arith, append_assoc, length-append}
+use Rattle.std.proofs.Common.{◌≡◌, ℕ, ◌-◌, ◌≤◌, Bool, true, false, List, [], ◌∷◌, ◌++◌, ◌⊎◌, length, take, Some, Ok, Err, inl, inr, refl, sym, ap, subst, ◌∙◌, arith, append_assoc, length-append}
 use Rattle.orb_bytes.specs.Ascii.{line_feed}
 use Rattle.orb_io.specs.Told.{IsPrefix}
 use Rattle.orb_io.specs.declared.pulling.TheConstants.{MOST_OF_A_RUN}

@@ -1,14 +1,13 @@
 -- A text put into lowercase piece by piece.
-use Rattle.std.proofs.Common.{◌≡◌, ℕ, List, [], ◌∷◌, ◌++◌, Ok, Err, refl, sym, ap, subst, ◌∙◌, append_assoc}
-use Rattle.std.proofs.lemmas.List.{map-append, append-nil}
+use Rattle.std.proofs.Common.{◌≡◌, ℕ, List, [], ◌∷◌, ◌++◌, Ok, Err, sym, ap, subst, ◌∙◌, append_assoc}
+use Rattle.std.proofs.lemmas.List.{map-append}
 use Rattle.std.specs.Char.{to_ascii_lowercase}
 use Rattle.std.specs.Str.{str_to_ascii_lowercase}
 use Rattle.orb_bytes.specs.Ascii.{solidus}
-use Rattle.orb_io.specs.Told.{Agrees}
 use Rattle.orb_io.specs.Calls.{Puts}
 use Rattle.orb_io.specs.declared.outside.Failed.{Failed}
 use Rattle.orb_io.specs.declared.outside.Sink.{Ghosts}
-use Rattle.orb_io.proofs.CallLemmas.{Puts-none, Puts-then, Puts-first}
+use Rattle.orb_io.proofs.CallLemmas.{Puts-then, Puts-first}
 
 -- `/` failed after a type
 pub solidus-fault : {O : Type 0} (g : Ghosts O) (a b c : O) (fault other : Failed) (main sub : List ℕ) → (g.kept a b → g.kept b c → g.kept a c)

@@ -1,14 +1,13 @@
 -- What a log stands for is whole exchanges, entry by entry.
-use Rattle.std.proofs.Common.{◌≡◌, ℕ, ◌+◌, Bool, true, false, cond, List, [], ◌∷◌, ◌++◌, Option, Some, None, option_map, Result, Ok, Err, refl, sym, ap, ap₂, subst, ◌∙◌, append_assoc}
+use Rattle.std.proofs.Common.{◌≡◌, ℕ, ◌+◌, Bool, true, false, cond, [], ◌∷◌, ◌++◌, Option, Some, None, Result, Ok, Err, refl, sym, ap₂, subst}
 use Rattle.std.specs.Option.{option_and_then}
 use Rattle.std.specs.Prelude.{codes}
-use Rattle.std.specs.List.{flat_map}
 use Rattle.std.proofs.lemmas.List.Elements.{All-nil, All-cons}
 use Rattle.serde_json.specs.Data.{Data, Items, no_items, item}
 use Rattle.serde_json.specs.Find.{get}
-use Rattle.har_recording.specs.Log.{Text, Headers, Request, Response, Entry, of_both, is_token, if_token, string_at, headers_of, request_of, response_of, entry_of, entries_of, json_of, without_mark}
+use Rattle.har_recording.specs.Log.{Text, Headers, Request, Response, Entry, of_both, is_token, if_token, string_at, request_of, entry_of, entries_of, json_of, without_mark}
 use Rattle.har_recording.specs.Recorded.{exchange_text, is_final, recorded, followed, recording_from, recording_of, of_json, har_of}
-use Rattle.har_recording.specs.Whole.{sent_text, IsSent, AreSent}
+use Rattle.har_recording.specs.Whole.{IsSent, AreSent}
 use Rattle.har_recording.proofs.SentLemmas.{sent_of, sent_text-entry, IsSent-entry}
 
 -- ---- what is read of an entry

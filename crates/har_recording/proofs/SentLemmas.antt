@@ -1,5 +1,5 @@
 -- What the heads of a recorded exchange say, however they are read.
-use Rattle.std.proofs.Common.{◌≡◌, ℕ, ◌<◌, ◌≤◌, ◌^◌, Bool, true, false, cond, nat_le, nat_lt, List, [], ◌∷◌, ◌++◌, length, map, Option, Some, None, option_map, Result, Ok, Err, inl, inr, refl, sym, ap, subst, ◌∙◌, arith, append-nil}
+use Rattle.std.proofs.Common.{◌≡◌, ℕ, ◌<◌, ◌≤◌, ◌^◌, Bool, true, false, cond, nat_le, nat_lt, List, [], ◌∷◌, length, map, Option, Some, None, option_map, Result, Ok, Err, inl, inr, refl, sym, ap, subst, ◌∙◌, arith, append-nil}
 use Rattle.std.specs.Prelude.{filter, codes, decimal, bytes_eq}
 use Rattle.std.specs.List.{list_all}
 use Rattle.std.specs.Char.{is_ascii_digit}
@@ -12,11 +12,9 @@ use Rattle.httparse.specs.Grammar.{status_code}
 use Rattle.orb_bytes.specs.Ascii.{space}
 use Rattle.orb_bytes.specs.Bytes.{is_http_whitespace}
 use Rattle.orb_bytes.specs.Trim.{trimmed}
-use Rattle.orb_bytes.specs.Fields.{values_of}
 use Rattle.header_values.specs.Joined.{joined, joined_texts}
 use Rattle.http_exchange.specs.Fields.{pairs_of}
 use Rattle.http_exchange.specs.Frames.{IsWhole}
-use Rattle.http_exchange.specs.Heads.{IsResponse}
 use Rattle.http_exchange.specs.Reading.{ReadsRequestHead}
 use Rattle.http_exchange.specs.RequestFields.{value_of, has_body, id_of, with_id, request_of}
 use Rattle.http_exchange.specs.ResponseFields.{is_interim, has_no_body, framed, sized, frame_of}

@@ -1,5 +1,5 @@
 -- Exchanges of HTTP/1.1 as they are sent (RFC 9112), one after the other, each with a whole body.
-use Rattle.std.specs.Prelude.{◌≡◌, ℕ, List, ◌++◌, length, All, Some, None, Ok}
+use Rattle.std.specs.Prelude.{◌≡◌, List, ◌++◌, length, All, Some, None, Ok}
 use Rattle.std.specs.List.{flat_map}
 use Rattle.httparse.specs.Grammar.{status_code, ResponseHead}
 use Rattle.http_exchange.specs.Fields.{pairs_of}

@@ -1,19 +1,18 @@
 -- What the word `har` answers, from what the engine does with the recording.
-use Rattle.std.proofs.Common.{◌≡◌, ℕ, ◌<◌, ◌≤◌, Bool, true, false, List, [], ◌++◌, length, length-append, Option, Ok, Err, refl, sym, ap, ◌∙◌, subst, arith}
+use Rattle.std.proofs.Common.{◌≡◌, ℕ, ◌≤◌, true, false, List, [], ◌++◌, length, length-append, Option, Ok, Err, refl, sym, ◌∙◌, subst, arith}
 use Rattle.std.proofs.lemmas.List.{append-nil}
-use Rattle.orb_io.specs.Told.{IsAtEnd, IsPrefix, Loses}
+use Rattle.orb_io.specs.Told.{IsAtEnd, Loses}
 use Rattle.orb_io.proofs.ToldLemmas.{IsPrefix-trans}
-use Rattle.orb_io.specs.declared.pulling.TheConstants.{MOST_OF_A_RUN}
 use Rattle.orb_engine.specs.declared.settings.Settings.{Settings}
 use Rattle.orb_engine.specs.declared.engine.Engine.{Engine}
 use Rattle.orb_engine.specs.declared.outcome.EngineOutcome.{EngineOutcome}
 use Rattle.orb_engine.specs.declared.outcome.EngineOutcome.TheVariants.{Done, Bad, Cut, HeadLimit, MediaFull, Endless, ReadFault, WriteFault}
-use Rattle.orb_engine.specs.Recording.{Recording, IsRecording}
+use Rattle.orb_engine.specs.Recording.{IsRecording}
 use Rattle.orb_engine.specs.Ends as ends
 use Rattle.orb_engine.specs.Ends.{End, stop_of}
 use Rattle.orb_engine.specs.Outputs.{output_of}
 use Rattle.orb_engine.specs.Reads.{HaltCause}
-use Rattle.orb_engine.specs.Runs.{Ends, Fails, EndsAs}
+use Rattle.orb_engine.specs.Runs.{Ends, EndsAs}
 use Rattle.orb_engine.proofs.AnswerLaws.{output-longer, refusal-stands}
 use Rattle.orb_cli.specs.declared.outcome.Outcome.{Outcome}
 use Rattle.orb_cli.specs.declared.outcome.Outcome.TheVariants as outcomes

@@ -13,7 +13,7 @@ use Rattle.orb_cli.specs.declared.outcome.Outcome.{Outcome}
 use Rattle.orb_cli.specs.declared.outcome.Outcome.TheVariants.{Done, Usage, Bad, Cut, HeadLimit, MediaFull, Endless, ReadFault, WriteFault, NoMemory, NotHar, HarLimit}
 use Rattle.orb_cli.specs.Answer.{Ran, HasCauses}
 use Rattle.orb_cli.specs.Complete.{IsCompleteLog}
-use Rattle.orb_cli.specs.Har.{log_settings, EndsWhole, IsHarAnswer, IsReadWhole}
+use Rattle.orb_cli.specs.Har.{log_settings, EndsWhole, IsHarAnswer}
 
 -- the log that was read, and its recording
 module _ (bytes recording read rest : List ℕ) (r : Recording) (stands : har_of bytes ≡ Ok recording) (cut : IsRecording log_settings recording r)

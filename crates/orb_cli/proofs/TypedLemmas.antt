@@ -1,5 +1,5 @@
 -- Where nothing fails, a response whose head isn't refused is answered `Done`.
-use Rattle.std.proofs.Common.{◌≡◌, ℕ, ◌≤◌, true, List, [], ◌++◌, length, Option, None, Some, sym, ap, ◌∙◌, subst, arith}
+use Rattle.std.proofs.Common.{◌≡◌, ℕ, ◌≤◌, List, [], ◌++◌, length, Option, None, Some, sym, ap, ◌∙◌, subst, arith}
 use Rattle.std.proofs.lemmas.List.{append-nil, length-append}
 use Rattle.orb_io.specs.Told.{Rose}
 use Rattle.orb_io.specs.declared.pulling.TheConstants.{MOST_OF_A_RUN}

@@ -1,5 +1,5 @@
 -- From what the words ask for to what an answer says, and back.
-use Rattle.std.proofs.Common.{◌≡◌, ℕ, Bool, true, false, List, [], length, Option, ◌⊎◌, inl, inr, ap, ◌∙◌, subst, arith}
+use Rattle.std.proofs.Common.{◌≡◌, ℕ, Bool, true, false, List, [], length, Option, inl, inr, ap, subst, arith}
 use Rattle.orb_io.proofs.ToldLemmas.{Loses-none}
 use Rattle.command_line.specs.declared.asked.Job.{Job}
 use Rattle.command_line.specs.declared.asked.Policy.{Policy}
