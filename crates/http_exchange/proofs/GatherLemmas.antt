@@ -1,5 +1,5 @@
 -- The first empty line of two texts, one after the other: it ends in the seam, or in the second.
-use Rattle.std.proofs.Common.{◌≡◌, ◌≢◌, ℕ, zero, suc, ◌+◌, ◌-◌, ◌≤◌, ◌<◌, Bool, true, false, cond, List, [], ◌∷◌, ◌++◌, length, take, drop, Option, None, Some, refl, sym, ap, ◌∙◌, inl, inr, ◌⊎◌, arith, append_assoc, length-append, length-drop, length-take}
+use Rattle.std.proofs.Common.{◌≡◌, ◌≢◌, ℕ, zero, suc, ◌+◌, ◌-◌, ◌≤◌, ◌<◌, ◌==◌, Bool, true, false, cond, List, [], ◌∷◌, ◌++◌, length, take, drop, Option, None, Some, refl, sym, ap, ◌∙◌, inl, inr, ◌⊎◌, arith, append_assoc, length-append, length-drop, length-take}
 use Rattle.std.specs.Prelude.{bytes_eq, nat_lt}
 use Rattle.std.proofs.lemmas.Bool.Decides.{nat_tests}
 use Rattle.std.specs.Option.{option_map}
@@ -51,6 +51,16 @@ head_length-short text short = by_option (head_length text) refl
     by_option : (o : Option ℕ) → head_length text ≡ o → head_length text ≡ None
     by_option None is = is
     by_option (Some n) is = absurd (omega (arith, short, head_length-bounds text n is))
+
+-- after no bytes, it is that of the piece
+pub ends_alone : (text piece : List ℕ) (end : Option ℕ) → (length text == 0) ≡ true → end ≡ head_length piece
+    → EndsAfter text piece end
+ends_alone [] piece None empty is = sym is
+ends_alone [] piece (Some used) empty is =
+    let bounds = head_length-bounds piece used (sym is) in
+    let same : used ≡ 0 + used = omega arith in
+    (sym is ∙ ap Some same, omega (arith, bounds.0), bounds.1)
+ends_alone (b ∷ text) piece end empty is = absurd (grind (arith, nat_tests, empty))
 
 nat_cases : (a b : ℕ) → (a ≤ b) ⊎ (b < a)
 nat_cases a b = by_test (nat_lt b a) refl

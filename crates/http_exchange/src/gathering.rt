@@ -104,6 +104,9 @@ fn end_after(text: &[u8], piece: &[u8]) -> Option<usize>
     requires { head_length text.now ≡ None }
     ensures { EndsAfter text.now piece.now result }
 {
+    if text.is_empty() {
+        return head_end(piece);
+    }
     let before = last_bytes(text, 3);
     let mut seam: ArrayVec<u8, 6> = ArrayVec::new();
     extend(&mut seam, before);
