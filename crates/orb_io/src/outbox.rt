@@ -30,7 +30,8 @@ impl Model for Outbox {
 }
 
 impl Outbox {
-    ghost use Rattle.std.specs.Prelude.{◌<◌, ◌+◌, ◌↔◌, IfOk, IsTrue, [], length};
+    ghost use Rattle.std.specs.Prelude.{◌<◌, ◌+◌, ◌-◌, ◌++◌, ◌↔◌, IfOk, IsTrue, [], length, take};
+    ghost use Rattle.orb_io.specs.Told.{Rose};
     ghost use Rattle.orb_io.specs.Outboxes.{OutboxState, outbox_room, empty_outbox};
 
     /// Reserves the room.
@@ -65,6 +66,17 @@ impl Outbox {
     {
         most < (ROOM - self.bytes.len()) as u64
     }
+
+    /// Takes what there is room for of a longer piece, and counts the fault.
+    #[cold]
+    fn fill(&mut self, piece: &[u8]) -> Failed
+        ensures bytes { self.new.bytes ≡ self.old.bytes ++ take (outbox_room - length self.old.bytes) piece.now }
+        ensures faults { Rose self.old.faults self.new.faults }
+    {
+        let room = ROOM - self.bytes.len();
+        append(&mut self.bytes, first_bytes(piece, room));
+        raised(&mut self.faults)
+    }
 }
 
 impl Sink for Outbox {
@@ -89,14 +101,13 @@ impl Sink for Outbox {
 
     ghost kept_transitive = { λ b c d first second. OnlyFills-twice b c d first second };
 
+    #[inline(always)]
     fn push(&mut self, piece: &[u8]) -> Result<(), Failed> {
-        let room = ROOM - self.bytes.len();
-        append(&mut self.bytes, first_bytes(piece, room));
-        if piece.len() <= room {
+        if piece.len() <= ROOM - self.bytes.len() {
+            append(&mut self.bytes, piece);
             Ok(())
         } else {
-            self.faults = self.faults.saturating_add(1);
-            Err(Failed)
+            Err(self.fill(piece))
         }
     }
 }
