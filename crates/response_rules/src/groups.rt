@@ -1,12 +1,12 @@
 //! The groups of the MIME type that a head states.
-ghost use Rattle.std.specs.Prelude.{◌≡◌, ◌≤◌, length};
+ghost use Rattle.std.specs.Prelude.{◌≡◌, ◌≤◌, Some, length};
 ghost use Rattle.header_values.specs.Fields.{AreOfHead, pairs_in};
-ghost use Rattle.response_rules.specs.Facts.{AreGroups};
+ghost use Rattle.mime_types.specs.Sets.{main_of, sub_of};
+ghost use Rattle.response_rules.specs.Facts.{AreGroups, groups_of};
 
 use header_values::{Fields, Scratch, extract_essence};
 use mime_types::{
-    is_blocklisted, is_html, is_json, is_media, is_never_sniffed, is_safelisted, is_text_plain,
-    is_xml,
+    Essence, is_html, is_json, is_media, is_never_sniffed, is_safelisted, is_text_plain, is_xml,
 };
 
 /// Whether there is a type, and the groups that have it.
@@ -55,17 +55,27 @@ pub(crate) fn read_groups(fields: &Fields, scratch: &mut Scratch) -> Groups
     ensures kept { scratch.new ≡ scratch.old }
 {
     match extract_essence(scratch, fields) {
-        Some(essence) => Groups {
-            typed: true,
-            safelisted: is_safelisted(&essence),
-            never_sniffed: is_never_sniffed(&essence),
-            blocklisted: is_blocklisted(&essence),
-            plain_text: is_text_plain(&essence),
-            html: is_html(&essence),
-            xml: is_xml(&essence),
-            json: is_json(&essence),
-            media: is_media(&essence),
-        },
+        Some(essence) => groups_of(&essence),
         None => Groups::NONE,
+    }
+}
+
+/// The groups of a type.
+fn groups_of(essence: &Essence) -> Groups
+    ensures { result ≡ groups_of (Some (main_of essence.now, sub_of essence.now)) }
+{
+    let html = is_html(essence);
+    let json = is_json(essence);
+    let xml = is_xml(essence);
+    Groups {
+        typed: true,
+        safelisted: is_safelisted(essence),
+        never_sniffed: is_never_sniffed(essence),
+        blocklisted: html || json || xml,
+        plain_text: is_text_plain(essence),
+        html,
+        xml,
+        json,
+        media: is_media(essence),
     }
 }
